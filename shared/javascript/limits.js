@@ -4,7 +4,7 @@
 const fs = require('fs');
 const path = require('path');
 
-const FILE = path.resolve(__dirname, '..', '..', 'crates', 'lit_read', 'src', 'limits.rt');
+const FILE = path.resolve(__dirname, '..', '..', 'crates', 'lit_syntax', 'src', 'limits.rt');
 const CONSTANT = /^pub const ([A-Z_]+): [a-z0-9]+ = ([0-9_]+);/gm;
 
 const limits = Object.fromEntries([...fs.readFileSync(FILE, 'latin1').matchAll(CONSTANT)]

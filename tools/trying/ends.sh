@@ -11,11 +11,11 @@ passed=0
 failed=0
 
 # ends NAME STATUS TEXT COMMAND..: whether the command ends with the status, or one of several with `|` between them, and says
-# the text, on either output.
+# the text, on either output. The limit ends a command that hangs: one that has much to do may take minutes on a slow machine.
 ends() {
     local name=$1 wanted=$2 text=$3 status=0
     shift 3
-    timeout 120 "$@" >"$work/said" 2>&1 || status=$?
+    timeout 600 "$@" >"$work/said" 2>&1 || status=$?
     if [[ "|$wanted|" == *"|$status|"* ]] && { [ -z "$text" ] || grep -qF -- "$text" "$work/said"; }; then
         passed=$((passed + 1))
     else

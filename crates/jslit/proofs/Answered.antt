@@ -6,9 +6,9 @@ use Rattle.clap.specs.declared.error.Error.{Error}
 use Rattle.clap.specs.declared.error.kind.ErrorKind.{ErrorKind}
 use Rattle.clap.specs.declared.error.kind.ErrorKind.TheVariants as kinds
 use Rattle.jslit.specs.declared.command.asked_line.Line.{Line}
-use Rattle.jslit.specs.declared.counted.Counted.{Counted}
+use Rattle.lit_print.specs.declared.counted.Counted.{Counted}
 use Rattle.jslit.specs.Answer.{IsCheckStatus}
-use Rattle.jslit.specs.Counted.{device_of, failures_of}
+use Rattle.lit_print.specs.Counted.{device_of, failures_of}
 use Rattle.jslit.specs.Devices.{OfToldText}
 use Rattle.jslit.specs.Internal.Saying.{IsExplained}
 use Rattle.jslit.specs.declared.fault.RunFault.{RunFault}

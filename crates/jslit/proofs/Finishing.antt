@@ -5,11 +5,11 @@ use Rattle.std.specs.Io.KnownBytes.{Keeps}
 use Rattle.std.proofs.lemmas.Bool.{cases_lt}
 use Rattle.std.proofs.KnownBytes.{Appends-kept}
 use Rattle.jslit.specs.Answer.{HasGrown, HasGrownSome, HasGrownRefusal, status_of}
-use Rattle.jslit.specs.Counted.{device_of, failures_of}
+use Rattle.lit_print.specs.Counted.{device_of, failures_of}
 use Rattle.jslit.specs.Devices.{OfToldText}
 use Rattle.jslit.specs.RunAnswer.{HasRun, HasServed}
 use Rattle.jslit.specs.Internal.Saying.{HasSaid, IsSaid}
-use Rattle.jslit.specs.declared.counted.Counted.{Counted}
+use Rattle.lit_print.specs.declared.counted.Counted.{Counted}
 use Rattle.jslit.specs.declared.fault.RunFault.{RunFault}
 use Rattle.jslit.specs.declared.fault.RunFault.TheVariants as faults
 use Rattle.jslit.proofs.Statuses.{failed_device, never_zero, refusal_of_text, whole_is_beginning}

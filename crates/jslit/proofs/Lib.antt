@@ -1,10 +1,4 @@
-pub mod ChoiceNumbers
-pub mod Written
-pub mod Putting
-pub mod SourceLines
 mod Statuses
-pub mod Registers
-pub mod ChosenEvents
 pub mod EntryFacts
 pub mod Lines
 pub mod Pages

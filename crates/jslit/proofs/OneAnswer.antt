@@ -1,7 +1,7 @@
 -- A text has one answer.
 use Rattle.std.proofs.Common.{◌≡◌, ℕ, Bool, true, false, Option, List, [], length, get_or, refl, sym, ap, subst, ◌∙◌}
 use Rattle.std.specs.Prelude.{is_some}
-use Rattle.lit_read.specs.Syntax.{Litmus}
+use Rattle.lit_syntax.specs.Syntax.{Litmus}
 use Rattle.lit_read.specs.Spelling.{Spells}
 use Rattle.lit_paths.specs.Choice.{choices_of}
 use Rattle.lit_paths.specs.Outcome.{meets}

@@ -4,9 +4,9 @@ use Rattle.std.specs.List.{flat_map}
 use Rattle.std.proofs.Math.Seq.{take-add}
 use Rattle.std.proofs.lemmas.Grind.{flat_map-append}
 use Rattle.std.proofs.lemmas.List.{drop_more, drop-drop, take_all}
-use Rattle.lit_read.specs.Syntax.{Litmus}
+use Rattle.lit_syntax.specs.Syntax.{Litmus}
 use Rattle.lit_search.specs.Report.{Entry, Report, entry_at}
-use Rattle.jslit.specs.ReportText.{entry_text}
+use Rattle.lit_print.specs.EntryText.{entry_text}
 use Rattle.jslit.specs.Internal.Pages.{page_text}
 
 module _ (t : Litmus) (report : Report) where

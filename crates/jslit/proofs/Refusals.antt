@@ -1,8 +1,8 @@
 -- What is said of the faults of a run.
 use Rattle.std.proofs.Common.{◌+◌, ◌≤◌, ℕ, List, [], length, arith, take, Option, Some, None, OnErr, IsErrOf, Ok, Err, refl}
 use Rattle.std.specs.declared.result.Result.{Result}
-use Rattle.lit_read.specs.Syntax.{Litmus}
-use Rattle.lit_read.specs.declared.limits.TheConstants.{TEXT_LIMIT}
+use Rattle.lit_syntax.specs.Syntax.{Litmus}
+use Rattle.lit_syntax.specs.declared.limits.TheConstants.{TEXT_LIMIT}
 use Rattle.lit_paths.specs.declared.fault.PlanFault.{PlanFault}
 use Rattle.lit_paths.specs.declared.fault.PlanFault.TheVariants as plan_faults
 use Rattle.lit_paths.specs.Plan as plan

@@ -6,8 +6,8 @@ use Rattle.std.proofs.Math.Seq.{take-length}
 use Rattle.std.proofs.lemmas.Bool.{eqb-true, and_parts}
 use Rattle.std.proofs.lemmas.List.{append-nil, take-append-drop}
 use Rattle.std.proofs.lemmas.List.Elements.{All-drop, All-get_or, All-push}
-use Rattle.lit_read.specs.Syntax.{IsLitmus, Litmus, agent_of}
-use Rattle.lit_read.specs.Tokens.{begins_with, begins_word, is_in_word}
+use Rattle.lit_syntax.specs.Syntax.{IsLitmus, Litmus, agent_of}
+use Rattle.lit_syntax.specs.Tokens.{begins_with, begins_word, is_in_word}
 use Rattle.jslit.specs.Schedule.{NamesAgents, NamesNoAgents, schedule_text}
 use Rattle.jslit.specs.Internal.Scheduling.{NamesNone, behind_comma}
 

@@ -5,7 +5,7 @@ use Rattle.std.proofs.lemmas.Bool.Decides.{nat_tests}
 use Rattle.std.proofs.lemmas.Option.{slice_get-get_or, slice_get_within}
 use Rattle.std.specs.declared.result.Result.{Result}
 use Rattle.std.specs.Io.KnownBytes.{Appends}
-use Rattle.lit_read.specs.Syntax.{IsLitmus, Litmus}
+use Rattle.lit_syntax.specs.Syntax.{IsLitmus, Litmus}
 use Rattle.lit_read.specs.Spelling.{Spells}
 use Rattle.lit_paths.specs.Choice.{choices_of}
 use Rattle.lit_paths.specs.declared.fault.PlanFault.{PlanFault}
@@ -19,7 +19,7 @@ use Rattle.jslit.specs.declared.fault.RunFault.{RunFault}
 use Rattle.jslit.specs.declared.fault.RunFault.TheVariants.{OutputFailed}
 use Rattle.jslit.specs.declared.verdict.Verdict.{Verdict}
 use Rattle.jslit.specs.Answer.{HasBegun, HasReported, IsAnswerOf, IsComplete, IsQuickReportOf, IsReportOf}
-use Rattle.jslit.specs.Devices.{AppendsBeginning}
+use Rattle.lit_print.specs.Writing.{AppendsBeginning}
 use Rattle.jslit.specs.ReportText.{quick_text, report_text}
 use Rattle.jslit.specs.Verdict.{IsVerdict, verdict_of}
 use Rattle.jslit.specs.Internal.Answering.{HasWritten, HasWrittenSome, IsFirstFound}

@@ -4,7 +4,7 @@ use Rattle.std.proofs.Math.Seq.{take-append_seam}
 use Rattle.std.proofs.lemmas.List.{append-nil, length-append, take_all}
 use Rattle.std.specs.Io.KnownBytes.{Consumes, IsAtEnd}
 use Rattle.std.proofs.KnownBytes.{Consumes-trans}
-use Rattle.lit_read.specs.declared.limits.TheConstants.{TEXT_LIMIT}
+use Rattle.lit_syntax.specs.declared.limits.TheConstants.{TEXT_LIMIT}
 use Rattle.jslit.specs.Devices.{IsTold, ConsumesBeginning}
 use Rattle.jslit.specs.Internal.Reading.{HasRead}
 

@@ -1,7 +1,7 @@
 -- What a run answers for the bytes of a text (this project's own).
 use Rattle.std.specs.Prelude.{◌≡◌, ◌⊎◌, ℕ, Bool, true, false, Option, is_some, List, length, map, Contains}
 use Rattle.std.specs.Io.KnownBytes.{Appends}
-use Rattle.lit_read.specs.Syntax.{Litmus}
+use Rattle.lit_syntax.specs.Syntax.{Litmus}
 use Rattle.lit_read.specs.Faults.{IsFirstFault}
 use Rattle.lit_read.specs.Spelling.{Spells}
 use Rattle.lit_paths.specs.Choice.{choices_of}
@@ -14,7 +14,7 @@ use Rattle.lit_valid.specs.ValidExecution.{IsValidExecution}
 use Rattle.jslit.specs.declared.fault.RunFault.{RunFault}
 use Rattle.jslit.specs.declared.fault.RunFault.TheVariants as faults
 use Rattle.jslit.specs.declared.verdict.Verdict.{Verdict}
-use Rattle.jslit.specs.Devices.{AppendsBeginning}
+use Rattle.lit_print.specs.Writing.{AppendsBeginning}
 use Rattle.jslit.specs.QuickAnswer.{IsFirst}
 use Rattle.jslit.specs.ReportText.{report_text, quick_text}
 use Rattle.jslit.specs.RefusalText.{refusal_line}

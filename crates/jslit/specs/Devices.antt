@@ -1,8 +1,8 @@
 -- What a run does to the devices that it reads from and writes to.
-use Rattle.std.specs.Prelude.{◌≡◌, ℕ, ◌+◌, ◌≤◌, ◌++◌, Option, IfSome, List, length, take}
+use Rattle.std.specs.Prelude.{◌≡◌, ℕ, ◌+◌, ◌≤◌, Option, IfSome, List, length, take}
 use Rattle.std.specs.Option.{option_map}
-use Rattle.std.specs.Io.KnownBytes.{Appends, Consumes}
-use Rattle.lit_read.specs.declared.limits.TheConstants.{TEXT_LIMIT}
+use Rattle.std.specs.Io.KnownBytes.{Consumes}
+use Rattle.lit_syntax.specs.declared.limits.TheConstants.{TEXT_LIMIT}
 
 -- the bytes that a reader tells: up to its end, or to one more than a text may have
 abbrev pub told : Option (List ℕ) → Option (List ℕ)
@@ -27,10 +27,3 @@ pub record ConsumesBeginning (old new : Option (List ℕ)) (limit : ℕ) : Type 
 -- known bytes lose those that are told, and no more
 abbrev pub ConsumesTold : Option (List ℕ) → Option (List ℕ) → Type 0
 ConsumesTold old new = IfSome (told old) (Consumes old new)
-
--- known bytes grow by a beginning of these bytes
-pub record AppendsBeginning (old new : Option (List ℕ)) (bytes : List ℕ) : Type 0 where
-  pub front : List ℕ
-  pub rest : List ℕ
-  pub parts : front ++ rest ≡ bytes
-  pub appended : Appends old new front

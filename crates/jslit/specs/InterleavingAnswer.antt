@@ -1,6 +1,6 @@
 -- What a run of a schedule answers for the bytes of a text (this project's own).
 use Rattle.std.specs.Prelude.{◌≡◌, ℕ, Option, Some, List, slice_get}
-use Rattle.lit_read.specs.Syntax.{Litmus}
+use Rattle.lit_syntax.specs.Syntax.{Litmus}
 use Rattle.lit_read.specs.Faults.{IsFirstFault}
 use Rattle.lit_read.specs.Spelling.{Spells}
 use Rattle.lit_search.specs.Interleaving.{interleaved}

@@ -1,15 +1,9 @@
 -- Notions of the contracts of private functions, and of how a fault of a lower crate becomes one of a run.
-pub mod ChoiceSources
 pub mod Faults
 pub mod Reading
 pub mod FirstEntry
 pub mod Answering
-pub mod ReadLine
 pub mod Judging
-pub mod CachedText
-pub mod CachedLines
-pub mod EntryCache
-pub mod Writing
 pub mod Pages
 pub mod Command
 pub mod Saying

@@ -1,7 +1,5 @@
-pub mod Counted
 pub mod Devices
 pub mod Verdict
-pub mod ChoiceEvents
 pub mod ReportText
 pub mod RefusalText
 pub mod QuickAnswer

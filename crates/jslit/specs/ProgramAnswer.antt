@@ -1,10 +1,10 @@
 -- What the program answers for its words (this project's own).
 use Rattle.std.specs.Prelude.{◌≡◌, ◌⊎◌, ◌<◌, ℕ, Bool, List, Option, Some, None, is_some, true}
 use Rattle.clap.specs.Words.{Text}
-use Rattle.jslit.specs.declared.counted.Counted.{Counted}
+use Rattle.lit_print.specs.declared.counted.Counted.{Counted}
 use Rattle.jslit.specs.declared.fault.RunFault.{RunFault}
 use Rattle.jslit.specs.Answer.{IsAnswerOn, IsCheckStatus, IsFaultOn}
-use Rattle.jslit.specs.Counted.{device_of, failures_of}
+use Rattle.lit_print.specs.Counted.{device_of, failures_of}
 use Rattle.jslit.specs.InterleavingAnswer.{IsInterleavingOn, IsScheduleFaultOn}
 use Rattle.jslit.specs.RunAnswer.{HasServed}
 use Rattle.jslit.specs.Words.{AsksHelp, AsksRun, AsksVersion, IsRefused, file_in, quick_in, schedule_in}

@@ -1,6 +1,6 @@
 -- The quick answer on a test, with its outcomes (this project's own).
 use Rattle.std.specs.Prelude.{◌≡◌, ℕ, List, Option, Some, None, length}
-use Rattle.lit_read.specs.Syntax.{Litmus}
+use Rattle.lit_syntax.specs.Syntax.{Litmus}
 use Rattle.lit_paths.specs.Choice.{choices_of}
 use Rattle.lit_valid.specs.declared.class.Class.{Class}
 use Rattle.lit_search.specs.FirstOfClass.{HasNoneOf, IsFirstOf}

@@ -7,7 +7,7 @@ use Rattle.lit_paths.specs.declared.fault.PlanFault.{PlanFault}
 use Rattle.lit_paths.specs.FaultNames.{limit_text}
 use Rattle.jslit.specs.declared.fault.RunFault.{RunFault}
 use Rattle.jslit.specs.declared.fault.RunFault.TheVariants as faults
-use Rattle.jslit.specs.ReportText.{line}
+use Rattle.lit_print.specs.EntryText.{line}
 
 abbrev pub read_fault_line : ReadFault → List ℕ
 read_fault_line fault = line (codes "refused " ++ kind_text fault.kind ++ codes " line " ++ decimal fault.line)

@@ -1,11 +1,11 @@
 -- The effect of a run on its reader and its writer, and the program's status after it (this project's own).
 use Rattle.std.specs.Prelude.{◌≡◌, ◌≢◌, ◌⊎◌, ◌↔◌, ◌<◌, ◌≤◌, ◌+◌, ℕ, List, Option, Result, IfErr, IsErrOf, OnOk}
-use Rattle.lit_read.specs.declared.limits.TheConstants.{TEXT_LIMIT}
-use Rattle.jslit.specs.declared.counted.Counted.{Counted}
+use Rattle.lit_syntax.specs.declared.limits.TheConstants.{TEXT_LIMIT}
+use Rattle.lit_print.specs.declared.counted.Counted.{Counted}
 use Rattle.jslit.specs.declared.fault.RunFault.{RunFault}
 use Rattle.jslit.specs.declared.fault.RunFault.TheVariants as faults
 use Rattle.jslit.specs.Answer.{HasGrown, HasGrownRefusal, HasGrownSome}
-use Rattle.jslit.specs.Counted.{device_of, failures_of}
+use Rattle.lit_print.specs.Counted.{device_of, failures_of}
 use Rattle.jslit.specs.Devices.{ConsumesBeginning, ConsumesTold, OfToldText}
 
 -- A run that reads a text, and writes an answer of this kind on it or has a fault of this kind.

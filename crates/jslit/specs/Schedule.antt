@@ -1,6 +1,6 @@
 -- Schedules as text (this project's own): the names of agents, in the order of their turns, joined by commas.
 use Rattle.std.specs.Prelude.{◌≡◌, ◌<◌, ℕ, List, [], ◌∷◌, ◌++◌, All, length, codes}
-use Rattle.lit_read.specs.Syntax.{Litmus, agent_of}
+use Rattle.lit_syntax.specs.Syntax.{Litmus, agent_of}
 
 -- the names of these agents, with a comma between two
 abbrev pub schedule_text : Litmus → List ℕ → List ℕ

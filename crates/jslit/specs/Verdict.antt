@@ -1,6 +1,6 @@
 -- The verdict on a test (this project's own).
 use Rattle.std.specs.Prelude.{◌≡◌, ◌<◌, Bool, true, false, All, length}
-use Rattle.lit_read.specs.Syntax.{Litmus}
+use Rattle.lit_syntax.specs.Syntax.{Litmus}
 use Rattle.lit_paths.specs.Outcome.{meets}
 use Rattle.lit_search.specs.Report.{Report}
 use Rattle.jslit.specs.declared.verdict.Verdict.{Verdict}

@@ -6,14 +6,14 @@ mod cutting;
 ghost use Rattle.std.specs.Prelude.{◌≡◌, ◌≤◌, ◌<◌, ◌^◌, ◌-◌, length};
 ghost use Rattle.lit_share.specs.declared.limits.TheConstants.{CUT_LIMIT, WORKER_LIMIT};
 ghost use Rattle.jslit.specs.Answer.{IsAnswerOn, IsFaultOn};
-ghost use Rattle.jslit.specs.Counted.{failures_of};
+ghost use Rattle.lit_print.specs.Counted.{failures_of};
 ghost use Rattle.jslit.specs.RunAnswer.{HasRun};
 
-use crate::counted::Counted;
 use crate::engine::answering::{answer, passes};
 use crate::fault::RunFault;
 use crate::reading::read_text;
 use crate::watch::Watch;
+use lit_print::Counted;
 use lit_share::OpenGate;
 use std::alloc::Global;
 use std::io::{Read, Write};

@@ -5,22 +5,23 @@ pub(crate) mod schedule;
 ghost use Rattle.std.specs.Prelude.{◌≡◌, ◌≢◌, ◌<◌, ◌^◌, ◌-◌, IfErr, OnOk, OnErr, IsErrOf, length};
 ghost use Rattle.std.specs.Io.KnownBytes.{Appends};
 ghost use Rattle.lit_paths.specs.Outcome.{names_of};
-ghost use Rattle.jslit.specs.Counted.{device_of, failures_of, one_more};
-ghost use Rattle.jslit.specs.Devices.{AppendsBeginning};
+ghost use Rattle.lit_print.specs.Counted.{device_of, failures_of, one_more};
+ghost use Rattle.lit_print.specs.Writing.{AppendsBeginning};
 ghost use Rattle.jslit.specs.InterleavingAnswer.{HasInterleaved, HasInterleavedSome, IsInterleavingOn, IsScheduleFaultOn};
 ghost use Rattle.jslit.specs.ReportText.{interleaving_text};
 ghost use Rattle.jslit.specs.RunAnswer.{HasRun};
 ghost use Rattle.jslit.specs.Internal.Answering.{IsOfTextOrWriting};
 
-use crate::buffer::Buffer;
-use crate::buffer::report_writer::{put_head, put_registers, word_for};
-use crate::counted::Counted;
 use crate::fault::RunFault;
 use crate::interleaving::schedule::agents_of;
 use crate::reading::read_text;
+use crate::report::finish;
+use crate::report::report_writer::{put_head, word_for};
 use lit_paths::{meets, written_names};
-use lit_read::{Test, read};
+use lit_print::{Buffer, Counted, put_registers};
+use lit_read::read;
 use lit_search::interleave;
+use lit_syntax::Test;
 use std::alloc::Global;
 use std::io::{Read, Write};
 
@@ -48,7 +49,7 @@ fn write_interleaving<W: Write>(
     buffer.put(output, b"\nmeets ");
     buffer.put(output, word_for(meets(test, outcome)));
     buffer.put(output, b"\n");
-    buffer.finish(output)
+    finish(buffer, output)
 }
 
 /// Writes the answer for a text and a schedule. Where there is none, it writes nothing.

@@ -1,7 +1,7 @@
 //! Laws on the answers of a run. The functions compute nothing: their contracts are theorems.
 
 ghost use Rattle.std.specs.Prelude.{◌≡◌, ◌≤◌, ℕ, Bool, false, List, length};
-ghost use Rattle.lit_read.specs.Syntax.{Litmus};
+ghost use Rattle.lit_syntax.specs.Syntax.{Litmus};
 ghost use Rattle.lit_paths.specs.Choice.{choices_of};
 ghost use Rattle.lit_search.specs.Report.{Entry, Report, HasEntry, IsReport, in_range};
 ghost use Rattle.lit_valid.specs.declared.class.Class.{Class};

@@ -3,20 +3,19 @@
 //! `run` reads a litmus text from a reader and writes its report to a writer: its contract is the theorem of this
 //! repository, from the bytes in to the bytes out. `run_schedule` carries a test out step by step, in turns that the caller
 //! names. `program` is the program around both. The definitions stand in specs/: `Answer` (what a run answers for a text),
-//! `InterleavingAnswer`, `Schedule`, `ReportText`, `ChoiceEvents`, `Verdict`, `Devices`, `Counted`, `Words` (what the words
-//! of the command line ask for) and `ProgramAnswer`; those in `Internal` serve private
-//! contracts, and say how a fault of a lower crate becomes one of a run.
+//! `InterleavingAnswer`, `Schedule`, `ReportText` (`lit_print` has the text of an entry), `Verdict`, `Devices`, `Words` (what
+//! the words of the command line ask for) and `ProgramAnswer`; those in `Internal` serve private contracts, and say how a
+//! fault of a lower crate becomes one of a run.
 #![tactic(auto)]
 
-mod buffer;
 mod command;
-mod counted;
 mod engine;
 mod fault;
 mod interleaving;
 pub mod laws;
 mod progress;
 mod reading;
+mod report;
 mod verdict;
 mod watch;
 
@@ -24,9 +23,9 @@ pub use command::asked_line::Line;
 pub use command::version::VERSION;
 pub use command::words::line;
 pub use command::{check, check_schedule, check_watched, no_words, program, program_watched};
-pub use counted::Counted;
 pub use engine::{Options, run, run_watched};
 pub use fault::RunFault;
 pub use interleaving::run_schedule;
+pub use lit_print::Counted;
 pub use progress::Progress;
 pub use watch::Watch;

@@ -2,13 +2,13 @@
 
 ghost use Rattle.std.specs.Prelude.{◌≡◌, ◌+◌, ◌-◌, ◌^◌, ◌<◌, ◌≤◌, length, vec_len, IfOk, OnOk, IfErr};
 ghost use Rattle.std.specs.Io.KnownBytes.{Consumes};
-ghost use Rattle.jslit.specs.Counted.{device_of, failures_of};
+ghost use Rattle.lit_print.specs.Counted.{device_of, failures_of};
 ghost use Rattle.jslit.specs.Devices.{IsTold, ConsumesBeginning};
 ghost use Rattle.jslit.specs.Internal.Reading.{HasRead, IsReadFailure};
 
-use crate::counted::Counted;
 use crate::fault::RunFault;
-use lit_read::TEXT_LIMIT;
+use lit_print::Counted;
+use lit_syntax::TEXT_LIMIT;
 use std::alloc::Global;
 use std::io::Read;
 

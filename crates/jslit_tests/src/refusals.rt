@@ -3,7 +3,7 @@
 use super::calls::{prints, writes};
 use super::data::reports::Reported;
 use lit_paths::{ACCESS_LIMIT, COMBINATION_LIMIT};
-use lit_read::{AGENT_LIMIT, BLOCK_LIMIT, TEXT_LIMIT};
+use lit_syntax::{AGENT_LIMIT, BLOCK_LIMIT, TEXT_LIMIT};
 use std::alloc::AllocGlobal;
 use std::process::Abort;
 use std::rt::Files;

@@ -3,7 +3,8 @@
 use super::calls::ONE_WORKER;
 use super::data::reports::OWN_STORE;
 use jslit::{Counted, RunFault, run};
-use lit_read::{ReadFault, ReadKind, TEXT_LIMIT};
+use lit_read::{ReadFault, ReadKind};
+use lit_syntax::TEXT_LIMIT;
 use std::alloc::AllocGlobal;
 use std::io;
 use std::io::{Read, Write};

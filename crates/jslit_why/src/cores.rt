@@ -1,8 +1,9 @@
 //! Unsatisfiable cores: a least part of a condition that no values of reads make true (decision 114).
 
 use lit_paths::{Plan, PlanFault, plan};
-use lit_read::{Cond, ReadKind, Test, read, show};
+use lit_read::{ReadKind, read, show};
 use lit_search::Class;
+use lit_syntax::{Cond, Test};
 use lit_why::attempts;
 use std::alloc::{AllocError, Global};
 use std::io;

@@ -1,7 +1,7 @@
 //! The answer for a text, and the program's status.
 
 ghost use Rattle.std.specs.Prelude.{◌<◌, ◌^◌, ◌-◌};
-ghost use Rattle.jslit.specs.Counted.{failures_of};
+ghost use Rattle.lit_print.specs.Counted.{failures_of};
 
 use crate::choices::explain_choice;
 use crate::classes::explain_class;
@@ -14,8 +14,9 @@ use clap::Error;
 use clap::error::ErrorKind;
 use jslit::{Counted, Options, RunFault, check};
 use lit_paths::{Plan, plan};
-use lit_read::{TEXT_LIMIT, read};
+use lit_read::read;
 use lit_search::Class;
+use lit_syntax::TEXT_LIMIT;
 use std::alloc::Global;
 use std::convert::AsStr;
 use std::io::{Read, Write};

@@ -1,7 +1,7 @@
 //! The statements whose guards decide a path: each `if`, and each compareExchange, which asks whether it stores.
 
 use lit_paths::{Combination, Tested};
-use lit_read::{Stmt, count_with_parts, statement_count};
+use lit_syntax::{Stmt, count_with_parts, statement_count};
 use std::alloc::{AllocError, Global};
 
 /// The guards after the next one.

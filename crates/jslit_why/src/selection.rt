@@ -3,7 +3,7 @@
 use crate::scene::{Scene, put_event_name};
 use crate::statements::Statements;
 use lit_paths::{Combination, Event, Plan};
-use lit_read::{REGISTERS, Test};
+use lit_syntax::{REGISTERS, Test};
 use lit_why::Refusal;
 use std::alloc::Global;
 use std::io;

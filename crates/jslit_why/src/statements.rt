@@ -1,7 +1,8 @@
 //! The lines of a text on which its statements begin.
 
 use lit_paths::{Combination, EVENT_LIMIT};
-use lit_read::{Test, statement_count, statement_lines};
+use lit_read::statement_lines;
+use lit_syntax::{Test, statement_count};
 use std::alloc::{AllocError, Global};
 
 /// The line, from 1, of each event of a combination, by number; none of an event that makes the block.

@@ -5,9 +5,10 @@ ghost use Rattle.lit_paths.specs.Choice.{choices_of};
 ghost use Rattle.lit_share.specs.declared.limits.TheConstants.{WORKER_LIMIT};
 
 use lit_paths::{Plan, plan};
-use lit_read::{Test, read, show};
+use lit_read::{read, show};
 use lit_search::{Collector, Example, Found, NoHeartbeat};
 use lit_share::{OpenGate, Quick, quick, search};
+use lit_syntax::Test;
 use std::alloc::{AllocError, Global};
 use std::io::{Eprint, Print};
 use std::test::Fail;

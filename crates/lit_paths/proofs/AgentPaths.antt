@@ -2,7 +2,7 @@
 use Rattle.std.proofs.Common.{◌≡◌, ℕ, zero, suc, ◌+◌, ◌<◌, ◌≤◌, List, [], ◌∷◌, ◌++◌, length, map, take, get_or, arith, sym, ap, ◌∙◌, mul-le-mul}
 use Rattle.std.proofs.lemmas.List.{map_more, take_all}
 use Rattle.std.proofs.lemmas.Option.{slice_get-get_or}
-use Rattle.lit_read.specs.Syntax.{Statements, Agent, Litmus, IsLitmus, agent_of}
+use Rattle.lit_syntax.specs.Syntax.{Statements, Agent, Litmus, IsLitmus, agent_of}
 use Rattle.lit_paths.specs.Path.{walks_of}
 use Rattle.lit_paths.specs.PathModel.{PathModel, path_model}
 use Rattle.lit_paths.specs.Internal.PathSteps.{empty_path, with_steps}

@@ -2,7 +2,7 @@
 use Rattle.std.proofs.Common.{◌≡◌, ℕ, zero, suc, ◌+◌, ◌*◌, ◌/◌, ◌%◌, ◌<◌, ◌≤◌, List, [], ◌∷◌, length, map, drop, get_or, subst, arith, refl, sym, ap, ◌∙◌, mul_assoc, mul-le-mul}
 use Rattle.std.specs.Global.{Vec}
 use Rattle.std.proofs.lemmas.List.{drop_more, get_or-map, get_or_default, length-map}
-use Rattle.lit_read.specs.Syntax.{Litmus, Agent, agent_of}
+use Rattle.lit_syntax.specs.Syntax.{Litmus, Agent, agent_of}
 use Rattle.lit_paths.specs.declared.planning.agent_paths.AgentPaths.TheInside.{Inside}
 use Rattle.lit_paths.specs.Internal.AllPaths.{AreAllPaths}
 use Rattle.lit_paths.specs.Path.{walks_of}

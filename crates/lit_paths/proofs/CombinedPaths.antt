@@ -4,7 +4,7 @@ use Rattle.std.proofs.lemmas.List.{length-map, map_more, take_all, drop_more}
 use Rattle.std.proofs.lemmas.Option.{slice_get-get_or, get_or_from_slice_get}
 use Rattle.std.specs.List.{range_with_len}
 use Rattle.std.proofs.lemmas.List.FromFn.{map-range_with_len_more}
-use Rattle.lit_read.specs.Syntax.{Litmus, Agent, Statement, Statements, Load, Store, Exchange, CompareExchange, If, End, Then, agent_of}
+use Rattle.lit_syntax.specs.Syntax.{Litmus, Agent, Statement, Statements, Load, Store, Exchange, CompareExchange, If, End, Then, agent_of}
 use Rattle.lit_paths.specs.declared.event.Event.{Event}
 use Rattle.lit_paths.specs.Event.{init_events}
 use Rattle.lit_paths.specs.Path.{Path, Step, IsStatementWalk, IsWalk, walks_of, paths_of, path_on, events_on}

@@ -2,11 +2,11 @@
 use Rattle.std.proofs.Common.{◌≡◌, ℕ, ◌&&◌, ◌||◌, Bool, List, refl, ap, ◌∙◌, Vec, Global}
 use Rattle.std.specs.List.{list_any, list_all}
 use mathlib.Core.Former.{Count}
-use Rattle.lit_read.specs.declared.syntax.Cond.{Cond, Row_of-Cond, end_of-Cond, more_of-Cond, items-the_row-Cond, items_hidden-the_row-Cond-0}
-use Rattle.lit_read.specs.declared.syntax.Cond as code
-use Rattle.lit_read.specs.Litmus.{condition_of, conditions_of}
+use Rattle.lit_syntax.specs.declared.syntax.Cond.{Cond, Row_of-Cond, end_of-Cond, more_of-Cond, items-the_row-Cond, items_hidden-the_row-Cond-0}
+use Rattle.lit_syntax.specs.declared.syntax.Cond as code
+use Rattle.lit_syntax.specs.Litmus.{condition_of, conditions_of}
 use Rattle.lit_paths.specs.Outcome.{asks, some_asks, holds, any_holds, all_hold}
-use Rattle.lit_read.proofs.TreeViews.{row_of}
+use Rattle.lit_syntax.proofs.TreeViews.{row_of}
 
 -- whether a member of a condition holds
 abbrev pub member_holds : List ((ℕ × ℕ) × ℕ) → Cond → Bool

@@ -1,9 +1,9 @@
 -- Counting walks and accesses, capped at a limit.
 use Rattle.std.proofs.Common.{◌≡◌, ℕ, ◌+◌, ◌*◌, ◌<◌, ◌≤◌, List, length, get_or, drop, arith, sym, ap, ◌∙◌, ⊎_elim, mul_assoc, mul-le-mul, min}
 use Rattle.std.proofs.lemmas.Bool.{cases_lt}
-use Rattle.lit_read.specs.declared.syntax.Stmt.{Stmt}
-use Rattle.lit_read.specs.Syntax.{Statements}
-use Rattle.lit_read.specs.Litmus.{statement_of, statements_of}
+use Rattle.lit_syntax.specs.declared.syntax.Stmt.{Stmt}
+use Rattle.lit_syntax.specs.Syntax.{Statements}
+use Rattle.lit_syntax.specs.Litmus.{statement_of, statements_of}
 use Rattle.lit_paths.specs.Path.{walks_of, statement_walks}
 use Rattle.lit_paths.specs.Internal.Walks.{longest, statement_longest}
 use Rattle.lit_paths.proofs.Parts.{statements_left, statements_end}

@@ -6,7 +6,7 @@ use Rattle.std.specs.List.{AllByRecursion, range_with_len}
 use Rattle.std.proofs.lemmas.List.Elements.{All-from_recursion}
 use Rattle.std.proofs.lemmas.List.{get_or_append_left}
 use Rattle.std.proofs.lemmas.List.FromFn.{get_or-map-range_with_len}
-use Rattle.lit_read.specs.Syntax.{Litmus, IsLitmus, Window, Uint8, Uint16, Uint32, DataView8, DataView16, DataView32, window_size, is_in_block, Statement, Statements, Load, Store, Exchange, CompareExchange, If, End, Then, IsStatementIn, AreStatementsIn, agent_of}
+use Rattle.lit_syntax.specs.Syntax.{Litmus, IsLitmus, Window, Uint8, Uint16, Uint32, DataView8, DataView16, DataView32, window_size, is_in_block, Statement, Statements, Load, Store, Exchange, CompareExchange, If, End, Then, IsStatementIn, AreStatementsIn, agent_of}
 use Rattle.lit_paths.specs.declared.limits.TheConstants.{ACCESS_LIMIT}
 use Rattle.lit_paths.specs.declared.event.Event.{Event}
 use Rattle.lit_paths.specs.declared.event.Order3.TheVariants.{Init}

@@ -3,10 +3,10 @@ use Rattle.std.proofs.Common.{◌≡◌, ℕ, zero, suc, ◌+◌, ◌<◌, ◌�
 use Rattle.std.specs.List.{AllByRecursion}
 use Rattle.std.proofs.lemmas.List.{map-append}
 use Rattle.std.proofs.lemmas.Option.{slice_get_within}
-use Rattle.lit_read.specs.Syntax.{Statement, Statements, Load, Store, Exchange, CompareExchange, If, End, Then}
-use Rattle.lit_read.specs.Forms.{Form, StatementLine, IfLine}
-use Rattle.lit_read.specs.StatementOrder.{count_with_parts, statement_count, statement_begun, statements_begun}
-use Rattle.lit_read.proofs.StatementForms.{statement_counted, statements_counted}
+use Rattle.lit_syntax.specs.Syntax.{Statement, Statements, Load, Store, Exchange, CompareExchange, If, End, Then}
+use Rattle.lit_syntax.specs.Forms.{Form, StatementLine, IfLine}
+use Rattle.lit_syntax.specs.StatementOrder.{count_with_parts, statement_count, statement_begun, statements_begun}
+use Rattle.lit_syntax.proofs.CountLemmas.{statement_counted, statements_counted}
 use Rattle.lit_paths.specs.declared.path.Tested.{Tested}
 use Rattle.lit_paths.specs.Path.{Step, LoadMet, StoreMet, ExchangeMet, CompareExchangeMet, IfMet, IsWalk}
 use Rattle.lit_paths.specs.PathModel.{guards_after}

@@ -2,14 +2,14 @@
 use Rattle.std.proofs.Common.{zip, ◌==◌, ◌&&◌, ◌≡◌, ℕ, zero, suc, ◌+◌, ◌<◌, ◌≤◌, List, [], ◌∷◌, ◌++◌, length, map, filter, drop, get_or, arith, refl, sym, ap, ◌∙◌, append_assoc, map-id, zero-add, Bool, true, false, cond}
 use Rattle.std.specs.Prelude.{All}
 use Rattle.std.specs.List.{range_with_len, AllByRecursion}
-use Rattle.lit_read.specs.declared.limits.TheConstants.{REGISTERS}
+use Rattle.lit_syntax.specs.declared.limits.TheConstants.{REGISTERS}
 use Rattle.std.proofs.lemmas.List.{drop_more, drop_all, map-append}
 use Rattle.std.proofs.lemmas.Slice.Zip.{length-zip, get_or-zip}
 use Rattle.std.proofs.lemmas.List.Elements.{filter-append, All-from_recursion}
 use Rattle.std.proofs.lemmas.List.FromFn.{map-range_with_len_more}
-use Rattle.lit_read.specs.Syntax.{Agent, Statements, writes}
+use Rattle.lit_syntax.specs.Syntax.{Agent, Statements, writes}
 use Rattle.lit_paths.specs.Outcome.{names_in, names_from, value_in}
-use Rattle.lit_read.proofs.ListLemmas.{all_both}
+use Rattle.lit_syntax.proofs.ListLemmas.{all_both}
 
 pub range_more : (a n : ℕ) → range_with_len a (n + 1) ≡ range_with_len a n ++ (a + n) ∷ []
 range_more a n =

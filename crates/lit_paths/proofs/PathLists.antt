@@ -5,7 +5,7 @@ use Rattle.std.specs.Ordering.{nat_cmp, ordering_then}
 use Rattle.std.specs.declared.cmp.Ordering.{Ordering}
 use Rattle.std.specs.declared.cmp.Ordering.TheVariants.{Less, Equal}
 use Rattle.std.proofs.lemmas.Option.{slice_get_within}
-use Rattle.lit_read.specs.Syntax.{Agent, Statements, Litmus, agent_of}
+use Rattle.lit_syntax.specs.Syntax.{Agent, Statements, Litmus, agent_of}
 use Rattle.lit_paths.specs.Path.{Path, IsPath, path_on, paths_of, walks_of, decisions_on}
 use Rattle.lit_paths.specs.Choice.{AreCombined, ListsCombinations, paths_of_agents, combinations_of}
 use Rattle.lit_paths.proofs.Products.{product-known, product-found}

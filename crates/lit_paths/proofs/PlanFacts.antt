@@ -5,7 +5,7 @@ use Rattle.std.specs.List.Sorted.{IsNonDecreasingBy}
 use Rattle.std.proofs.lemmas.Bool.{cases_lt}
 use Rattle.std.proofs.lemmas.List.FromFn.{length-map-range_with_len, get_or-map-range_with_len}
 use Rattle.std.proofs.lemmas.Option.{slice_get-get_or}
-use Rattle.lit_read.specs.Syntax.{Litmus, IsLitmus}
+use Rattle.lit_syntax.specs.Syntax.{Litmus, IsLitmus}
 use Rattle.lit_paths.specs.declared.limits.TheConstants.{COMBINATION_LIMIT, CHOICE_LIMIT}
 use Rattle.lit_paths.specs.Choice.{sources_of, combinations_of, choices_of, choices_on, candidates_of}
 use Rattle.lit_paths.specs.declared.planning.Plan.TheInside.{Inside}

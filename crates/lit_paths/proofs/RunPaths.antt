@@ -4,8 +4,8 @@ use Rattle.std.proofs.Common.{◌≡◌, ℕ, ◌<◌, ◌==◌, Bool, true, fal
 use Rattle.std.specs.Prelude.{slice_set, slice_index}
 use Rattle.std.proofs.lemmas.List.{length-map, same_lists, get_or-map, get_or_default}
 use Rattle.std.proofs.lemmas.Option.{slice_get-get_or}
-use Rattle.lit_read.specs.declared.limits.TheConstants.{REGISTERS}
-use Rattle.lit_read.specs.Syntax.{Statement, Statements, Load, Store, Exchange, CompareExchange, If, Then, End, Litmus, agent_of}
+use Rattle.lit_syntax.specs.declared.limits.TheConstants.{REGISTERS}
+use Rattle.lit_syntax.specs.Syntax.{Statement, Statements, Load, Store, Exchange, CompareExchange, If, Then, End, Litmus, agent_of}
 use Rattle.lit_paths.specs.declared.event.Event.{Event}
 use Rattle.lit_paths.specs.Path.{Path, Step, LoadMet, CompareExchangeMet, IfMet, IsStatementWalk, IsWalk, IsPath, path_on}
 use Rattle.lit_paths.specs.Run.{Run, IsRun, AgreesWith, compares, run_path}

@@ -2,9 +2,9 @@
 use Rattle.std.proofs.Common.{◌≡◌, ℕ, zero, suc, ◌+◌, ◌*◌, ◌/◌, ◌%◌, ◌<◌, ◌≤◌, Bool, true, false, List, [], ◌∷◌, ◌++◌, length, map, flat_map, get_or, drop, slice_get, Some, arith, refl, sym, ap, ◌∙◌, subst, min, max, mul-le-mul, div-lt_iff_lt-mul}
 use Rattle.std.proofs.lemmas.List.{length-map}
 use Rattle.std.proofs.lemmas.Option.{slice_get-get_or, slice_get_within, get_or_from_slice_get}
-use Rattle.lit_read.specs.declared.syntax.Stmt.{Stmt}
-use Rattle.lit_read.specs.Syntax.{Statement, Statements, Then, End, Load, Store, Exchange, CompareExchange, If, IsStatementIn, AreStatementsIn}
-use Rattle.lit_read.specs.Litmus.{statement_of, statements_of}
+use Rattle.lit_syntax.specs.declared.syntax.Stmt.{Stmt}
+use Rattle.lit_syntax.specs.Syntax.{Statement, Statements, Then, End, Load, Store, Exchange, CompareExchange, If, IsStatementIn, AreStatementsIn}
+use Rattle.lit_syntax.specs.Litmus.{statement_of, statements_of}
 use Rattle.lit_paths.specs.Path.{Step, IfMet, walks_of, statement_walks}
 use Rattle.lit_paths.specs.PathModel.{PathModel}
 use Rattle.lit_paths.specs.Internal.PathSteps.{with_step, with_steps}

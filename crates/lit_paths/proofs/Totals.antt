@@ -2,7 +2,7 @@
 use Rattle.std.proofs.Common.{◌≡◌, ℕ, Bool, zero, suc, true, false, drop, ◌+◌, ◌-◌, ◌<◌, ◌≤◌, List, [], ◌∷◌, ◌++◌, length, map, flat_map, take, get_or, slice_get, Some, arith, refl, sym, ap, ◌∙◌, subst, add-one, length-append}
 use Rattle.std.proofs.lemmas.List.{length-drop, length-map, take_all}
 use Rattle.std.proofs.lemmas.Option.{slice_get-get_or, slice_get_within, same_Some}
-use Rattle.lit_read.specs.Syntax.{Litmus}
+use Rattle.lit_syntax.specs.Syntax.{Litmus}
 use Rattle.lit_paths.specs.declared.event.Event.{Event}
 use Rattle.lit_paths.specs.Event.{event_at, init_event, no_event, does_read, does_write}
 use Rattle.lit_paths.specs.declared.limits.TheConstants.{CANDIDATE_LIMIT}

@@ -7,7 +7,7 @@ use Rattle.std.specs.Cmp.Lexicographic.{slice_cmp}
 use Rattle.std.specs.Ordering.{nat_cmp, ordering_then}
 use Rattle.std.specs.declared.cmp.Ordering.{Ordering}
 use Rattle.std.specs.declared.cmp.Ordering.TheVariants.{Less}
-use Rattle.lit_read.specs.Syntax.{Litmus, Agent, agent_of}
+use Rattle.lit_syntax.specs.Syntax.{Litmus, Agent, agent_of}
 use Rattle.lit_paths.specs.declared.event.Event.{Event}
 use Rattle.lit_paths.specs.Event.{does_write, init_events}
 use Rattle.lit_paths.specs.Path.{Path, IsPath, paths_of}

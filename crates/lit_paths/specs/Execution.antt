@@ -1,6 +1,6 @@
 -- Candidate executions (ECMA-262, 2024, 29.4).
 use Rattle.std.specs.Prelude.{◌≡◌, ℕ, List, length, map, Some, slice_get}
-use Rattle.lit_read.specs.Syntax.{Litmus, agent_of}
+use Rattle.lit_syntax.specs.Syntax.{Litmus, agent_of}
 use Rattle.lit_paths.specs.declared.event.Event.{Event}
 use Rattle.lit_paths.specs.Run.{Run, IsRun}
 use Rattle.lit_paths.specs.Choice.{Choice, events_of, AreSources}

@@ -2,7 +2,7 @@
 -- `choices_of`.
 use Rattle.std.specs.Prelude.{◌≡◌, ℕ, ◌+◌, ◌*◌, ◌<◌, ◌≤◌, ◌↔◌, List, [], ◌∷◌}
 use Rattle.std.specs.Prelude.{◌++◌, length, map, drop, Some, slice_get}
-use Rattle.lit_read.specs.Syntax.{Litmus}
+use Rattle.lit_syntax.specs.Syntax.{Litmus}
 use Rattle.lit_paths.specs.declared.event.Event.{Event}
 use Rattle.lit_paths.specs.ByteReads.{byte_reads, byte_read_at}
 use Rattle.lit_paths.specs.Choice.{AreCandidates, Choice, candidates_of, choices_of}

@@ -3,8 +3,8 @@
 use Rattle.std.specs.Prelude.{ℕ, ◌+◌, ◌==◌, Bool, true, false, cond, not, ◌&&◌, ◌||◌, List}
 use Rattle.std.specs.Prelude.{[], ◌∷◌, ◌++◌, map, filter, slice_index, slice_index_or}
 use Rattle.std.specs.List.{range_with_len, zip}
-use Rattle.lit_read.specs.declared.limits.TheConstants.{REGISTERS}
-use Rattle.lit_read.specs.Syntax.{Litmus, Agent, writes, Condition, Conditions, Any, All, Not, Is, NoMore, Also}
+use Rattle.lit_syntax.specs.declared.limits.TheConstants.{REGISTERS}
+use Rattle.lit_syntax.specs.Syntax.{Litmus, Agent, writes, Condition, Conditions, Any, All, Not, Is, NoMore, Also}
 
 -- the registers that the agent with number n writes, rising, each with that number
 abbrev pub names_in : ℕ → Agent → List (ℕ × ℕ)

@@ -3,8 +3,8 @@
 use Rattle.std.specs.Prelude.{◌≡◌, ◌⊎◌, ℕ, ◌+◌, ◌*◌, ◌/◌, ◌%◌, Bool, true, false, not}
 use Rattle.std.specs.Prelude.{if◌then◌else◌, Some, List, [], ◌∷◌, ◌++◌, map}
 use Rattle.std.specs.List.{flat_map}
-use Rattle.lit_read.specs.Syntax.{Window, window_size, is_data_view, Statement, Statements}
-use Rattle.lit_read.specs.Syntax.{Load, Store, Exchange, CompareExchange, If, End, Then}
+use Rattle.lit_syntax.specs.Syntax.{Window, window_size, is_data_view, Statement, Statements}
+use Rattle.lit_syntax.specs.Syntax.{Load, Store, Exchange, CompareExchange, If, End, Then}
 use Rattle.lit_paths.specs.declared.event.Kind.TheVariants.{Read, Write, Modify}
 use Rattle.lit_paths.specs.declared.event.Order3.{Order3}
 use Rattle.lit_paths.specs.declared.event.Order3.TheVariants.{SeqCst, Unordered}

@@ -1,8 +1,8 @@
 -- A run of an agent: chosen values, one for each reading statement met (ECMA-262, 2024, 29.3), the path on which
 -- every decision agrees with them, and what its registers hold at the end (registers are this project's own).
 use Rattle.std.specs.Prelude.{◌≡◌, ℕ, ◌==◌, Bool, true, false, not, List, [], ◌∷◌, replicate, slice_index, slice_set}
-use Rattle.lit_read.specs.declared.limits.TheConstants.{REGISTERS}
-use Rattle.lit_read.specs.Syntax.{Statements}
+use Rattle.lit_syntax.specs.declared.limits.TheConstants.{REGISTERS}
+use Rattle.lit_syntax.specs.Syntax.{Statements}
 use Rattle.lit_paths.specs.declared.event.Event.{Event}
 use Rattle.lit_paths.specs.Path.{Step, LoadMet, StoreMet, ExchangeMet, CompareExchangeMet, IfMet, Path, IsPath}
 

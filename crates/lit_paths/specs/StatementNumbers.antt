@@ -1,8 +1,8 @@
 -- Which statement makes each event of a walk (this project's own). Statements have numbers in the order in which they are
 -- written: an `if` first, then those of its then-part, and then those of its else-part.
 use Rattle.std.specs.Prelude.{◌≡◌, ◌⊎◌, ℕ, ◌+◌, Bool, true, false, List, [], ◌∷◌, ◌++◌}
-use Rattle.lit_read.specs.Syntax.{Statement, Statements, Load, Store, Exchange, CompareExchange, If, End, Then}
-use Rattle.lit_read.specs.StatementOrder.{count_with_parts, statement_count}
+use Rattle.lit_syntax.specs.Syntax.{Statement, Statements, Load, Store, Exchange, CompareExchange, If, End, Then}
+use Rattle.lit_syntax.specs.StatementOrder.{count_with_parts, statement_count}
 use Rattle.lit_paths.specs.Path.{Step, LoadMet, StoreMet, ExchangeMet, CompareExchangeMet, IfMet}
 
 -- The steps lead through the statement with number n, or through statements of which the first has it, and these are the

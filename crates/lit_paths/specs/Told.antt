@@ -2,7 +2,7 @@
 -- registers hold at the end (this project's own).
 use Rattle.std.specs.Prelude.{◌≡◌, ℕ, ◌==◌, Bool, true, if◌then◌else◌, Option, Some, None, List, [], ◌∷◌, length, map}
 use Rattle.std.specs.List.{list_all, zip}
-use Rattle.lit_read.specs.Syntax.{Statements}
+use Rattle.lit_syntax.specs.Syntax.{Statements}
 use Rattle.lit_paths.specs.declared.event.Event.{Event}
 use Rattle.lit_paths.specs.declared.path.Tested.{Tested}
 use Rattle.lit_paths.specs.Event.{does_read}

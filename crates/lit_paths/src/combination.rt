@@ -4,8 +4,8 @@ pub(crate) mod paths;
 
 ghost use Rattle.std.specs.Prelude.{◌≡◌, ℕ, ◌+◌, ◌/◌, ◌%◌, ◌<◌, ◌≤◌, length, map, Some, slice_get};
 ghost use Rattle.std.specs.List.{AllByRecursion};
-ghost use Rattle.lit_read.specs.Syntax.{agent_of};
-ghost use Rattle.lit_read.specs.StatementOrder.{statement_count};
+ghost use Rattle.lit_syntax.specs.Syntax.{agent_of};
+ghost use Rattle.lit_syntax.specs.StatementOrder.{statement_count};
 ghost use Rattle.lit_paths.specs.declared.limits.TheConstants.{BYTE_READ_LIMIT as READS, CANDIDATE_LIMIT as CANDIDATES};
 ghost use Rattle.lit_paths.specs.declared.limits.TheConstants.{CHOICE_LIMIT, EVENT_LIMIT};
 ghost use Rattle.lit_paths.specs.ByteReads.{byte_reads, byte_read_at, pair_of};
@@ -27,7 +27,7 @@ use crate::path::Path;
 use crate::path::makers::{Makers, find_makers};
 use crate::planning::agent_paths::AgentPaths;
 use arrayvec::ArrayVec;
-use lit_read::Test;
+use lit_syntax::Test;
 use std::marker::Model;
 
 /// The candidates of each byte read, and in how many ways sources can be chosen for the byte reads after it.
@@ -133,8 +133,8 @@ pub struct Combination<'p> {
 impl<'p> Model for Combination<'p> {
     ghost use Rattle.std.specs.Prelude.{ℕ};
     ghost use Rattle.std.specs.Coded.{coded×, coded_ℕ};
-    ghost use Rattle.lit_read.specs.Syntax.{Litmus};
-    ghost use Rattle.lit_read.specs.SyntaxCodes.{coded_litmus};
+    ghost use Rattle.lit_syntax.specs.Syntax.{Litmus};
+    ghost use Rattle.lit_syntax.specs.SyntaxCodes.{coded_litmus};
     ghost use Rattle.lit_paths.specs.Internal.Entered.{IsEntered};
 
     ghost Value = { Litmus × ℕ };

@@ -1,9 +1,9 @@
 //! Laws of the definitions that the contracts cite. The functions do nothing: their contracts are theorems.
 
 ghost use Rattle.std.specs.Prelude.{◌≡◌, ℕ, ◌+◌, ◌<◌, ◌≤◌, List, length, map, Some, slice_get};
-ghost use Rattle.lit_read.specs.Syntax.{Litmus, IsLitmus, Statements, AreStatementsIn};
-ghost use Rattle.lit_read.specs.Forms.{StatementLine};
-ghost use Rattle.lit_read.specs.StatementOrder.{statements_begun};
+ghost use Rattle.lit_syntax.specs.Syntax.{Litmus, IsLitmus, Statements, AreStatementsIn};
+ghost use Rattle.lit_syntax.specs.Forms.{StatementLine};
+ghost use Rattle.lit_syntax.specs.StatementOrder.{statements_begun};
 ghost use Rattle.lit_paths.specs.Choice.{IsChoice, ListsChoices, ListsCombinations, combinations_of};
 ghost use Rattle.lit_paths.specs.Execution.{Execution, execution_choice, IsCandidateExecution};
 ghost use Rattle.lit_paths.specs.Numbers.{NumbersChoices};

@@ -1,6 +1,6 @@
-//! What a test may have at the most. What a text may have stands in `lit_read`.
+//! What a test may have at the most, beside what stands in `lit_syntax`.
 
-use lit_read::{AGENT_LIMIT, BLOCK_LIMIT, REGISTERS};
+use lit_syntax::{AGENT_LIMIT, BLOCK_LIMIT, REGISTERS};
 
 /// Access events in one combination of paths.
 pub const ACCESS_LIMIT: usize = 24;

@@ -5,14 +5,14 @@ pub(crate) mod makers;
 pub(crate) mod walking;
 
 ghost use Rattle.std.specs.Prelude.{◌≡◌, ◌<◌, length, Some, None, IfOk, slice_index_or};
-ghost use Rattle.lit_read.specs.declared.limits.TheConstants.{REGISTERS as REGISTER_COUNT};
+ghost use Rattle.lit_syntax.specs.declared.limits.TheConstants.{REGISTERS as REGISTER_COUNT};
 ghost use Rattle.lit_paths.specs.declared.limits.TheConstants.{ACCESS_LIMIT as ACCESSES};
 ghost use Rattle.lit_paths.specs.Internal.PathSteps.{empty_path, with_access, with_read, with_guard};
 
 use crate::event::Event;
 use crate::limits::ACCESS_LIMIT;
 use arrayvec::ArrayVec;
-use lit_read::REGISTERS;
+use lit_syntax::REGISTERS;
 use std::alloc::{AllocError, Global};
 use std::marker::Model;
 

@@ -6,8 +6,8 @@ pub(crate) mod plan_builder;
 
 ghost use Rattle.std.specs.Prelude.{◌≡◌, ℕ, ◌+◌, ◌<◌, ◌≤◌, length, All, nat_le, slice_index};
 ghost use Rattle.std.specs.List.Sorted.{IsNonDecreasingBy};
-ghost use Rattle.lit_read.specs.Syntax.{IsLitmus};
-ghost use Rattle.lit_read.specs.declared.limits.TheConstants.{REGISTERS};
+ghost use Rattle.lit_syntax.specs.Syntax.{IsLitmus};
+ghost use Rattle.lit_syntax.specs.declared.limits.TheConstants.{REGISTERS};
 ghost use Rattle.lit_paths.specs.Choice.{choices_of, combinations_of};
 ghost use Rattle.lit_paths.specs.declared.limits.TheConstants.{CHOICE_LIMIT, COMBINATION_LIMIT, NAME_LIMIT};
 ghost use Rattle.lit_paths.specs.Event.{event_at};
@@ -22,7 +22,7 @@ use crate::event::{Events, Sources, event_at};
 use crate::path::Path;
 use crate::planning::agent_paths::AgentPaths;
 use crate::registers::{OutcomeRegisters, asks, holds};
-use lit_read::Test;
+use lit_syntax::Test;
 use std::marker::Model;
 
 /// The choices of a test, by number, and what all of them share. A clause sees it as the test's value.
@@ -34,8 +34,8 @@ pub struct Plan<'t> {
 }
 
 impl<'t> Model for Plan<'t> {
-    ghost use Rattle.lit_read.specs.Syntax.{Litmus};
-    ghost use Rattle.lit_read.specs.SyntaxCodes.{coded_litmus};
+    ghost use Rattle.lit_syntax.specs.Syntax.{Litmus};
+    ghost use Rattle.lit_syntax.specs.SyntaxCodes.{coded_litmus};
     ghost use Rattle.lit_paths.specs.Internal.Planned.{IsPlanned};
 
     ghost Value = { Litmus };

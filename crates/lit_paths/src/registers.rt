@@ -3,14 +3,14 @@
 ghost use Rattle.std.specs.Prelude.{◌≡◌, ◌+◌, ◌<◌, ◌≤◌, ◌++◌, All, [], length};
 ghost use Rattle.std.specs.List.{zip};
 ghost use Rattle.arrayvec.specs.ArrayVec.{array_vec_len};
-ghost use Rattle.lit_read.specs.Litmus.{statements_of, condition_of};
-ghost use Rattle.lit_read.specs.declared.limits.TheConstants.{REGISTERS};
+ghost use Rattle.lit_syntax.specs.Litmus.{statements_of, condition_of};
+ghost use Rattle.lit_syntax.specs.declared.limits.TheConstants.{REGISTERS};
 ghost use Rattle.lit_paths.specs.declared.limits.TheConstants.{NAME_LIMIT};
 ghost use Rattle.lit_paths.specs.Outcome.{names_in, names_of, asks as asks_of, value_in as value_among, holds as holds_of, meets as is_met};
 
 use crate::limits::NAME_LIMIT;
 use arrayvec::ArrayVec;
-use lit_read::{Cond, REGISTERS, Stmt, Test, writes};
+use lit_syntax::{Cond, REGISTERS, Stmt, Test, writes};
 
 /// The registers of an outcome, as agent and register.
 pub type OutcomeRegisters = ArrayVec<(u8, u8), NAME_LIMIT>;

@@ -3,12 +3,12 @@ use Rattle.std.proofs.Common.{◌≡◌, ℕ, ◌^◌, ◌<◌, ◌≤◌, Bool,
 use Rattle.std.specs.Prelude.{codes}
 use Rattle.std.specs.Char.{is_ascii_digit}
 use Rattle.std.specs.Fmt.{decimal}
-use Rattle.lit_read.specs.declared.tokens.symbols.Symbol.TheVariants.{Same, Differs, Gives, OpenBracket, CloseBracket, OpenParen, CloseParen, OpenBrace, CloseBrace, Comma, Dot}
-use Rattle.lit_read.specs.declared.limits.TheConstants.{BLOCK_LIMIT, REGISTERS}
-use Rattle.lit_read.specs.Syntax.{Window, Uint8, Uint16, Uint32, DataView8, DataView16, DataView32, is_data_view, Statement, Load, Store, Exchange, CompareExchange, If, is_in_block, fits_window, IsStatementIn}
-use Rattle.lit_read.specs.Tokens.{Token, Word, Number, Sign, begins_with, IsWord}
-use Rattle.lit_read.specs.Written.{register_word}
-use Rattle.lit_read.specs.Forms.{TestLine, BytesLine, AgentLine, IfLine, ElseLine, EndLine, window_word, read_tokens, store_tokens, statement_tokens, spelled, IsAccess}
+use Rattle.lit_syntax.specs.declared.symbol.Symbol.TheVariants.{Same, Differs, Gives, OpenBracket, CloseBracket, OpenParen, CloseParen, OpenBrace, CloseBrace, Comma, Dot}
+use Rattle.lit_syntax.specs.declared.limits.TheConstants.{BLOCK_LIMIT, REGISTERS}
+use Rattle.lit_syntax.specs.Syntax.{Window, Uint8, Uint16, Uint32, DataView8, DataView16, DataView32, is_data_view, Statement, Load, Store, Exchange, CompareExchange, If, is_in_block, fits_window, IsStatementIn}
+use Rattle.lit_syntax.specs.Tokens.{Token, Word, Number, Sign, begins_with, IsWord}
+use Rattle.lit_syntax.specs.Written.{register_word}
+use Rattle.lit_syntax.specs.Forms.{TestLine, BytesLine, AgentLine, IfLine, ElseLine, EndLine, window_word, read_tokens, store_tokens, statement_tokens, spelled, IsAccess}
 use Rattle.lit_read.specs.CanonicalText.{joined, register_text, read_text, store_text, statement_text, form_text}
 use Rattle.lit_read.proofs.DraftLemmas.{in_block_small, fitting_small}
 use Rattle.lit_read.proofs.CleanLines.{IsClean, clean_nil, clean_blank, word_is, clean_word, clean_sign, clean_number, clean_register, clean_pieces}

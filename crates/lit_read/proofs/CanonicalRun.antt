@@ -3,16 +3,16 @@ use Rattle.std.proofs.Common.{◌≡◌, ℕ, zero, suc, ◌+◌, ◌<◌, ◌�
 use Rattle.std.specs.List.{list_all, prefix_len}
 use Rattle.std.proofs.lemmas.Bool.Decides.{nat_tests}
 use Rattle.std.proofs.lemmas.List.{take_at, drop_at, append-nil}
-use Rattle.lit_read.specs.declared.limits.TheConstants.{TEXT_LIMIT, BLOCK_LIMIT, REGISTERS, COMPARED_LIMIT}
-use Rattle.lit_read.specs.Syntax.{Statement, Statements, Load, Store, Exchange, CompareExchange, If, End, Then, IsStatementIn, AreStatementsIn, Agent, Litmus, IsLitmus}
+use Rattle.lit_syntax.specs.declared.limits.TheConstants.{TEXT_LIMIT, BLOCK_LIMIT, REGISTERS, COMPARED_LIMIT}
+use Rattle.lit_syntax.specs.Syntax.{Statement, Statements, Load, Store, Exchange, CompareExchange, If, End, Then, IsStatementIn, AreStatementsIn, Agent, Litmus, IsLitmus}
 use Rattle.lit_read.specs.Lines.{lines_of, lines_from, ended_lines}
-use Rattle.lit_read.specs.Tokens.{IsWord}
-use Rattle.lit_read.specs.Forms.{Form, Blank, TestLine, BytesLine, AgentLine, StatementLine, IfLine, ElseLine, EndLine, CheckLine, spelled, IsAccess, IsForm, HasForm, HaveForms, without_blanks}
+use Rattle.lit_syntax.specs.Tokens.{IsWord}
+use Rattle.lit_syntax.specs.Forms.{Form, Blank, TestLine, BytesLine, AgentLine, StatementLine, IfLine, ElseLine, EndLine, CheckLine, spelled, IsAccess, IsForm, HasForm, HaveForms, without_blanks}
 use Rattle.lit_read.specs.Faults.{is_allowed}
-use Rattle.lit_read.specs.Written.{is_shallow}
+use Rattle.lit_syntax.specs.Written.{is_shallow}
 use Rattle.lit_read.specs.Spelling.{written_value, AreFormsOf, Spells}
 use Rattle.lit_read.specs.Canonical.{statement_forms, statements_forms, else_forms, agents_forms, canonical_forms}
-use Rattle.lit_read.specs.Parentheses.{written_of}
+use Rattle.lit_syntax.specs.Parentheses.{written_of}
 use Rattle.lit_read.specs.CanonicalText.{form_text, canonical}
 use Rattle.lit_read.specs.Internal.State.{State, Empty, Whole, step}
 use Rattle.lit_read.specs.Internal.LineSteps.{IsLine, LineStep}

@@ -4,15 +4,15 @@ use Rattle.std.specs.List.{AllByRecursion}
 use Rattle.std.specs.Str.{bytes_eq}
 use Rattle.std.proofs.lemmas.Bool.{le-leb}
 use Rattle.std.proofs.lemmas.Slice.Eq.{bytes_eq-Decides}
-use Rattle.lit_read.specs.declared.limits.TheConstants.{REGISTERS, COMPARED_LIMIT}
-use Rattle.lit_read.specs.Syntax.{End, writes, Agent, Litmus, IsConditionOn, AreConditionsOn, IsLitmus}
-use Rattle.lit_read.specs.Tokens.{IsWord}
-use Rattle.lit_read.specs.Written.{Comparison, Operand, Compared, Negated, Grouped, Conjunction, Lone, Both, Written, Single, Either, operand_depths, conjunction_depths, written_depths}
-use Rattle.lit_read.specs.Forms.{CheckLine, IsForm}
+use Rattle.lit_syntax.specs.declared.limits.TheConstants.{REGISTERS, COMPARED_LIMIT}
+use Rattle.lit_syntax.specs.Syntax.{End, writes, Agent, Litmus, IsConditionOn, AreConditionsOn, IsLitmus}
+use Rattle.lit_syntax.specs.Tokens.{IsWord}
+use Rattle.lit_syntax.specs.Written.{Comparison, Operand, Compared, Negated, Grouped, Conjunction, Lone, Both, Written, Single, Either, operand_depths, conjunction_depths, written_depths}
+use Rattle.lit_syntax.specs.Forms.{CheckLine, IsForm}
 use Rattle.lit_read.specs.Faults.{has_small_numbers}
 use Rattle.lit_read.specs.Spelling.{place_of, numbered, operand_value, conjunction_value, written_value, operand_values, conjunction_values}
 use Rattle.lit_read.specs.Internal.State.{body_named, is_known, are_known}
-use Rattle.lit_read.proofs.ListLemmas.{all_both, all_weaker, all_pass}
+use Rattle.lit_syntax.proofs.ListLemmas.{all_both, all_weaker, all_pass}
 use Rattle.lit_read.proofs.CanonicalConditions.{IsWritable, AreWritable}
 
 -- the first agent of a name

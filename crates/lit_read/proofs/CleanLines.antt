@@ -9,11 +9,11 @@ use Rattle.std.proofs.lemmas.Bool.Decides.{nat_tests}
 use Rattle.std.proofs.lemmas.Fmt.{decimal_digit, first_decimal, length-decimal-le, digits_decimal, digits_value-decimal}
 use Rattle.std.proofs.lemmas.Str.Parse.{IsNumeralModel, numerals_by_fold}
 use Rattle.std.proofs.lemmas.List.{append-nil}
-use Rattle.lit_read.specs.declared.tokens.symbols.Symbol.{Symbol}
-use Rattle.lit_read.specs.declared.tokens.symbols.Symbol.TheVariants.{Same, Differs, And, Or, Gives, Not, OpenBracket, CloseBracket, OpenParen, CloseParen, OpenBrace, CloseBrace, Comma, Dot}
-use Rattle.lit_read.specs.declared.limits.TheConstants.{WORD_LIMIT, REGISTERS}
-use Rattle.lit_read.specs.Tokens.{Token, Word, Number, Sign, begins_word, is_in_word, begins_with, IsWord, IsNumber, digits_value, has_plain_lead, symbol_text, IsTokenText, CanEndBefore, CutsInto}
-use Rattle.lit_read.specs.Written.{register_word}
+use Rattle.lit_syntax.specs.declared.symbol.Symbol.{Symbol}
+use Rattle.lit_syntax.specs.declared.symbol.Symbol.TheVariants.{Same, Differs, And, Or, Gives, Not, OpenBracket, CloseBracket, OpenParen, CloseParen, OpenBrace, CloseBrace, Comma, Dot}
+use Rattle.lit_syntax.specs.declared.limits.TheConstants.{WORD_LIMIT, REGISTERS}
+use Rattle.lit_syntax.specs.Tokens.{Token, Word, Number, Sign, begins_word, is_in_word, begins_with, IsWord, IsNumber, digits_value, has_plain_lead, symbol_text, IsTokenText, CanEndBefore, CutsInto}
+use Rattle.lit_syntax.specs.Written.{register_word}
 use Rattle.lit_read.specs.CanonicalText.{joined, register_text}
 use Rattle.lit_read.proofs.SpellLemmas.{all_joined}
 

@@ -7,10 +7,10 @@ use Rattle.std.proofs.lemmas.Bool.{eqb-true, ltb-false, le-ltb, or_parts, and_pa
 use Rattle.std.proofs.lemmas.Bool.Decides.{nat_tests}
 use Rattle.std.proofs.lemmas.List.{take_at, drop_at, take-append-drop}
 use Rattle.std.proofs.lemmas.List.Folds.{length-prefix_len}
-use Rattle.lit_read.specs.declared.tokens.symbols.Symbol.{Symbol}
-use Rattle.lit_read.specs.declared.tokens.symbols.Symbol.TheVariants.{Same, Differs, And, Or, Gives, Not, OpenBracket, CloseBracket, OpenParen, CloseParen, OpenBrace, CloseBrace, Comma, Dot}
-use Rattle.lit_read.specs.declared.limits.TheConstants.{WORD_LIMIT, DIGIT_LIMIT}
-use Rattle.lit_read.specs.Tokens.{Token, Word, Number, Sign, is_blank, begins_word, is_in_word, begins_with, IsWord, IsNumber, digits_value, has_plain_lead, symbol_text, IsTokenText, CanEndBefore, CutsOff, is_comment, IsTail}
+use Rattle.lit_syntax.specs.declared.symbol.Symbol.{Symbol}
+use Rattle.lit_syntax.specs.declared.symbol.Symbol.TheVariants.{Same, Differs, And, Or, Gives, Not, OpenBracket, CloseBracket, OpenParen, CloseParen, OpenBrace, CloseBrace, Comma, Dot}
+use Rattle.lit_syntax.specs.declared.limits.TheConstants.{WORD_LIMIT, DIGIT_LIMIT}
+use Rattle.lit_syntax.specs.Tokens.{Token, Word, Number, Sign, is_blank, begins_word, is_in_word, begins_with, IsWord, IsNumber, digits_value, has_plain_lead, symbol_text, IsTokenText, CanEndBefore, CutsOff, is_comment, IsTail}
 use Rattle.lit_read.specs.Internal.FirstToken.{pair_of, single_of, or_else, symbol_front, word_front, number_front, token_front, after_blanks}
 use Rattle.lit_read.proofs.TokenLemmas.{run_passes}
 

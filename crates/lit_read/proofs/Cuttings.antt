@@ -1,9 +1,9 @@
 -- The tokens of a line, as the reader goes along them.
 use Rattle.std.proofs.Common.{◌≡◌, ℕ, ◌<◌, ◌≤◌, true, false, List, [], ◌∷◌, ◌++◌, length, Some, None, refl, ap, sym, subst, ◌∙◌, arith, true≢false, append_assoc}
 use Rattle.std.proofs.lemmas.List.{length-append, append-nil}
-use Rattle.lit_read.specs.declared.tokens.symbols.Symbol.{Symbol}
-use Rattle.lit_read.specs.declared.tokens.symbols.Symbol.TheVariants.{Same, Differs, And, Or, Gives, Not, OpenBracket, CloseBracket, OpenParen, CloseParen, OpenBrace, CloseBrace, Comma, Dot}
-use Rattle.lit_read.specs.Tokens.{Token, Word, Number, Sign, begins_word, begins_with, symbol_text, IsTokenText, is_comment, CutsInto}
+use Rattle.lit_syntax.specs.declared.symbol.Symbol.{Symbol}
+use Rattle.lit_syntax.specs.declared.symbol.Symbol.TheVariants.{Same, Differs, And, Or, Gives, Not, OpenBracket, CloseBracket, OpenParen, CloseParen, OpenBrace, CloseBrace, Comma, Dot}
+use Rattle.lit_syntax.specs.Tokens.{Token, Word, Number, Sign, begins_word, begins_with, symbol_text, IsTokenText, is_comment, CutsInto}
 use Rattle.lit_read.specs.Internal.FirstToken.{token_front, after_blanks}
 use Rattle.lit_read.proofs.CutLemmas.{pair_parts, none_or_some, cut_token, made_token, cut_end, made_end, over_or_token}
 

@@ -2,12 +2,12 @@
 use Rattle.std.proofs.Common.{◌≡◌, ℕ, ◌+◌, ◌≤◌, true, leb, List, ◌++◌, arith}
 use Rattle.std.specs.List.{AllByRecursion}
 use Rattle.std.proofs.lemmas.Bool.{leb-true, le-leb}
-use Rattle.lit_read.specs.declared.limits.TheConstants.{DEPTH_LIMIT}
-use Rattle.lit_read.specs.Syntax.{Agent, Condition, Conditions, Any, All, Not, Is, NoMore, Also, condition_count}
-use Rattle.lit_read.specs.Written.{Comparison, Operand, Compared, Negated, Grouped, Conjunction, Lone, Both, Written, Single, Either, operand_depths, conjunction_depths, written_depths, is_shallow}
-use Rattle.lit_read.specs.Parentheses.{operand_of, conjunction_of, all_written, any_written, written_of}
+use Rattle.lit_syntax.specs.declared.limits.TheConstants.{DEPTH_LIMIT}
+use Rattle.lit_syntax.specs.Syntax.{Agent, Condition, Conditions, Any, All, Not, Is, NoMore, Also, condition_count}
+use Rattle.lit_syntax.specs.Written.{Comparison, Operand, Compared, Negated, Grouped, Conjunction, Lone, Both, Written, Single, Either, operand_depths, conjunction_depths, written_depths, is_shallow}
+use Rattle.lit_syntax.specs.Parentheses.{operand_of, conjunction_of, all_written, any_written, written_of}
 use Rattle.lit_read.specs.Spelling.{operand_value, conjunction_value, written_value, operand_values, conjunction_values}
-use Rattle.lit_read.proofs.ListLemmas.{all_both, all_parts, all_pass, all_passed}
+use Rattle.lit_syntax.proofs.ListLemmas.{all_both, all_parts, all_pass, all_passed}
 
 -- no comparison is deeper than this
 abbrev AreWithin : ℕ → List (Comparison × ℕ) → Type 0

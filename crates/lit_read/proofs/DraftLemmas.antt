@@ -9,12 +9,11 @@ use Rattle.std.specs.String.{string_eq}
 use Rattle.indexmap.specs.IndexMap.{insert_entry}
 use Rattle.std.specs.Map.{lookup, keys_of}
 use Rattle.std.specs.Str.{bytes_eq}
-use Rattle.lit_read.specs.declared.syntax.Stmt.{Stmt}
-use Rattle.lit_read.specs.Syntax.{Agent, Statements, End, Then, Window, Uint8, Uint16, Uint32, DataView8, DataView16, DataView32, is_in_block, fits_window}
-use Rattle.lit_read.specs.Litmus.{statement_of, statements_of}
+use Rattle.lit_syntax.specs.declared.syntax.Stmt.{Stmt}
+use Rattle.lit_syntax.specs.Syntax.{Agent, Statements, End, Then, Window, Uint8, Uint16, Uint32, DataView8, DataView16, DataView32, is_in_block, fits_window}
+use Rattle.lit_syntax.specs.Litmus.{statement_of, statements_of, agent_view, agents_view}
 use Rattle.lit_read.specs.Internal.State.{followed_by, with_agent, AreDistinct, body_named}
 use Rattle.lit_read.specs.Spelling.{place_of}
-use Rattle.lit_read.specs.Internal.Views.{agent_view, agents_view}
 
 pub statements_pushed : (body : List Stmt) (s : Stmt) → statements_of (body ++ s ∷ []) ≡ followed_by (statements_of body) (statement_of s)
 statements_pushed [] s = refl

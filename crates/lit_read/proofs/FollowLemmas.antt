@@ -1,7 +1,7 @@
 -- Marks that can follow one another, and no others, are those of a condition.
 use Rattle.std.proofs.Common.{◌≡◌, ℕ, zero, suc, ◌<◌, Bool, true, false, List, [], ◌∷◌, ◌++◌, length, Option, Some, None, refl, ap, sym, ◌∙◌, arith, append_assoc}
 use Rattle.std.proofs.lemmas.List.{append-nil}
-use Rattle.lit_read.specs.Written.{Operand, Compared, Negated, Grouped, Conjunction, Lone, Both, Written, Single, Either}
+use Rattle.lit_syntax.specs.Written.{Operand, Compared, Negated, Grouped, Conjunction, Lone, Both, Written, Single, Either}
 use Rattle.lit_read.specs.Internal.FormOfTokens.{◌>>=◌}
 use Rattle.lit_read.specs.Internal.Marks.{Mark, Bang, Opens, Closes, Joins, Parts, Compares, operand_marks, conjunction_marks, written_marks, follow}
 

@@ -1,11 +1,11 @@
 -- The computed form is the one that the tokens spell, and it is computed wherever they spell one but a check line.
 use Rattle.std.proofs.Common.{◌≡◌, ℕ, ◌+◌, Bool, true, false, cond, true≢false, List, [], ◌∷◌, Option, Some, None, refl, ap, sym, subst, ◌∙◌, ◌⊎◌, inl, inr}
 use Rattle.std.specs.Prelude.{codes}
-use Rattle.lit_read.specs.declared.tokens.symbols.Symbol.TheVariants.{Gives}
-use Rattle.lit_read.specs.Syntax.{Window, Uint8, Uint16, Uint32, DataView8, DataView16, DataView32, is_data_view, Load, Store, Exchange, CompareExchange, If}
-use Rattle.lit_read.specs.Tokens.{Token, Word, Sign}
-use Rattle.lit_read.specs.Written.{Written}
-use Rattle.lit_read.specs.Forms.{Form, Blank, TestLine, BytesLine, AgentLine, StatementLine, IfLine, ElseLine, EndLine, CheckLine, read_tokens, store_tokens, element_tokens, spelled, IsForm, IsSpelling}
+use Rattle.lit_syntax.specs.declared.symbol.Symbol.TheVariants.{Gives}
+use Rattle.lit_syntax.specs.Syntax.{Window, Uint8, Uint16, Uint32, DataView8, DataView16, DataView32, is_data_view, Load, Store, Exchange, CompareExchange, If}
+use Rattle.lit_syntax.specs.Tokens.{Token, Word, Sign}
+use Rattle.lit_syntax.specs.Written.{Written}
+use Rattle.lit_syntax.specs.Forms.{Form, Blank, TestLine, BytesLine, AgentLine, StatementLine, IfLine, ElseLine, EndLine, CheckLine, read_tokens, store_tokens, element_tokens, spelled, IsForm, IsSpelling}
 use Rattle.lit_read.specs.Faults.{is_check_line}
 use Rattle.lit_read.specs.Internal.FirstToken.{or_else}
 use Rattle.lit_read.specs.Internal.FormOfTokens.{after_sign, word_of, number_of, after_word, register_of, register_number, view_of, window_named, relation_of, ended, Item, front, ToldParts, in_parts}

@@ -5,13 +5,13 @@ use Rattle.std.proofs.Math.ListN.{drop_of_length-le}
 use Rattle.lit_read.specs.declared.fault.ReadKind.{ReadKind}
 use Rattle.lit_read.specs.declared.fault.ReadKind.TheVariants.{TooLong, NotAscii, Syntax, Misplaced, BlockSize, TooManyAgents, DuplicateAgent, LiteralRange, OutOfBlock, UnknownName, TooDeep, MissingPart, OutOfMemory}
 use Rattle.lit_read.specs.declared.forms.marks.Mark as marks
-use Rattle.lit_read.specs.declared.syntax.Cond.{Cond}
-use Rattle.lit_read.specs.declared.syntax.Cond as code
-use Rattle.lit_read.specs.Syntax.{Agent, Condition, Conditions, Any, All, Also}
-use Rattle.lit_read.specs.Litmus.{condition_of}
+use Rattle.lit_syntax.specs.declared.syntax.Cond.{Cond}
+use Rattle.lit_syntax.specs.declared.syntax.Cond as code
+use Rattle.lit_syntax.specs.Syntax.{Agent, Condition, Conditions, Any, All, Also}
+use Rattle.lit_syntax.specs.Litmus.{condition_of, conditions_view}
 use Rattle.lit_read.specs.Internal.Built.{Groups, pushed, all_of, any_of, asked, build_step, build, and_then}
-use Rattle.lit_read.specs.Internal.Views.{conditions_view, mark_view, mark_views, Fails}
-use Rattle.lit_read.proofs.TreeViews.{all_views, any_views}
+use Rattle.lit_read.specs.Internal.Views.{mark_view, mark_views, Fails}
+use Rattle.lit_syntax.proofs.TreeViews.{all_views, any_views}
 
 pub views_pushed : (cs : List Cond) (c : Cond) → conditions_view (cs ++ c ∷ []) ≡ pushed (conditions_view cs) (condition_of c)
 views_pushed [] c = refl

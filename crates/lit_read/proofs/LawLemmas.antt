@@ -6,11 +6,11 @@ use Rattle.std.proofs.lemmas.Bool.{cases_lt, eqb-true}
 use Rattle.std.proofs.lemmas.List.{length-append, length-drop}
 use Rattle.lit_read.specs.declared.fault.ReadKind.{ReadKind}
 use Rattle.lit_read.specs.declared.fault.ReadKind.TheVariants.{TooLong, NotAscii, Syntax, Misplaced, BlockSize, TooManyAgents, DuplicateAgent, LiteralRange, OutOfBlock, UnknownName, TooDeep, MissingPart, OutOfMemory}
-use Rattle.lit_read.specs.declared.limits.TheConstants.{TEXT_LIMIT}
-use Rattle.lit_read.specs.Syntax.{Litmus, IsLitmus}
+use Rattle.lit_syntax.specs.declared.limits.TheConstants.{TEXT_LIMIT}
+use Rattle.lit_syntax.specs.Syntax.{Litmus, IsLitmus}
 use Rattle.lit_read.specs.Lines.{lines_of}
-use Rattle.lit_read.specs.Tokens.{Token, CutsInto, is_comment}
-use Rattle.lit_read.specs.Forms.{Form, IsSpelling, without_blanks}
+use Rattle.lit_syntax.specs.Tokens.{Token, CutsInto, is_comment}
+use Rattle.lit_syntax.specs.Forms.{Form, IsSpelling, without_blanks}
 use Rattle.lit_read.specs.Faults.{number_of, is_allowed, HasFault, IsFirstFault}
 use Rattle.lit_read.specs.Spelling.{AreFormsOf, Spells}
 use Rattle.lit_read.specs.Internal.FirstToken.{token_front, after_blanks}

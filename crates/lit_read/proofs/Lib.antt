@@ -1,5 +1,3 @@
-pub mod ListLemmas
-pub mod TreeViews
 pub mod LineLemmas
 pub mod DraftLemmas
 pub mod TokenLemmas
@@ -36,6 +34,5 @@ pub mod CanonicalRun
 pub mod ShownForms
 pub mod ShownConditions
 pub mod LawLemmas
-pub mod CountLemmas
 pub mod ListedLines
 pub mod StatementForms

@@ -1,12 +1,12 @@
 -- Check lines, and all forms.
 use Rattle.std.proofs.Common.{◌≡◌, List, ◌∷◌, Option, Some, None, refl, ap, sym, subst, ◌∙◌, Result, Ok, Err}
 use Rattle.std.specs.Prelude.{codes, IfOk, IfNone}
-use Rattle.lit_read.specs.Tokens.{Token, Word}
-use Rattle.lit_read.specs.Written.{Written, written_tokens}
-use Rattle.lit_read.specs.Forms.{CheckLine, spelled, IsForm, IsSpelling}
+use Rattle.lit_syntax.specs.Tokens.{Token, Word}
+use Rattle.lit_syntax.specs.Written.{Written, written_tokens}
+use Rattle.lit_syntax.specs.Forms.{CheckLine, spelled, IsForm, IsSpelling}
 use Rattle.lit_read.specs.Internal.FormOfTokens.{after_word, word_of, fixed_form}
 use Rattle.lit_read.specs.Internal.Marks.{Mark, written_marks, SpellsMarks, SpellsNoCondition, SpellsForm, SpellsNoCheck, SpellsNothing}
-use Rattle.lit_read.proofs.ListLemmas.{tail_is}
+use Rattle.lit_syntax.proofs.ListLemmas.{tail_is}
 use Rattle.lit_read.proofs.RowLemmas.{after_word_is}
 use Rattle.lit_read.proofs.FormLemmas.{fixed_form_absent}
 

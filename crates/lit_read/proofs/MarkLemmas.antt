@@ -4,20 +4,20 @@ use Rattle.std.specs.Option.{option_map}
 use Rattle.std.specs.List.{AllByRecursion, flat_map}
 use Rattle.std.proofs.Math.ListN.{drop_of_length-le}
 use Rattle.std.proofs.lemmas.List.{length-append, length-drop, drop_at, drop-drop, append-nil}
-use Rattle.lit_read.specs.declared.tokens.symbols.Symbol.{Symbol}
-use Rattle.lit_read.specs.declared.tokens.symbols.Symbol.TheVariants.{And, Or, Not, OpenParen, CloseParen}
-use Rattle.lit_read.specs.declared.limits.TheConstants.{REGISTERS}
+use Rattle.lit_syntax.specs.declared.symbol.Symbol.{Symbol}
+use Rattle.lit_syntax.specs.declared.symbol.Symbol.TheVariants.{And, Or, Not, OpenParen, CloseParen}
+use Rattle.lit_syntax.specs.declared.limits.TheConstants.{REGISTERS}
 use Rattle.lit_read.specs.declared.tokens.Token as code
 use Rattle.lit_read.specs.Internal.Views.{token_views}
-use Rattle.lit_read.specs.Tokens.{Token, Number, Sign}
-use Rattle.lit_read.specs.Written.{Comparison, Operand, Compared, Negated, Grouped, Conjunction, Lone, Both, Written, Single, Either, comparison_tokens, operand_tokens, conjunction_tokens, written_tokens, operand_depths, conjunction_depths, written_depths}
+use Rattle.lit_syntax.specs.Tokens.{Token, Number, Sign}
+use Rattle.lit_syntax.specs.Written.{Comparison, Operand, Compared, Negated, Grouped, Conjunction, Lone, Both, Written, Single, Either, comparison_tokens, operand_tokens, conjunction_tokens, written_tokens, operand_depths, conjunction_depths, written_depths}
 use Rattle.lit_read.specs.Internal.FirstToken.{or_else}
 use Rattle.lit_read.specs.Internal.FormOfTokens.{◌>>=◌, after_sign, word_of, number_of, register_of, comparison_of, comparison_row, comparison_made}
 use Rattle.lit_read.specs.Internal.Marks.{Mark, Bang, Opens, Closes, Joins, Parts, Compares, mark_tokens, IsMark, operand_marks, conjunction_marks, written_marks, mark_of, follow, SpellsMarks}
 use Rattle.lit_read.proofs.CutLemmas.{pair_parts}
 use Rattle.lit_read.proofs.RowLemmas.{sign_is, row, along_is, register_number_again, relation_again}
 use Rattle.lit_read.proofs.FollowLemmas.{follow_all, follow_all-append, follows_whole, whole, condition_told}
-use Rattle.lit_read.proofs.ListLemmas.{all_both}
+use Rattle.lit_syntax.proofs.ListLemmas.{all_both}
 
 -- ---- one mark
 

@@ -1,14 +1,14 @@
 -- No tokens spell two forms.
 use Rattle.std.proofs.Common.{◌≡◌, ℕ, ◌+◌, Bool, true, false, cond, Some, None, List, [], ◌∷◌, ◌++◌, refl, ap, sym, ◌∙◌, arith, append_assoc}
 use Rattle.std.proofs.lemmas.List.{append-nil}
-use Rattle.lit_read.specs.declared.tokens.symbols.Symbol.{Symbol}
-use Rattle.lit_read.specs.declared.tokens.symbols.Symbol.TheVariants.{Same, Differs, And, Or, CloseParen, Dot}
-use Rattle.lit_read.specs.Tokens.{Token, Word, Number, Sign}
-use Rattle.lit_read.specs.Written.{Comparison, Operand, Compared, Negated, Grouped, Conjunction, Lone, Both, Written, Single, Either, register_word, comparison_tokens, operand_tokens, conjunction_tokens, written_tokens}
-use Rattle.lit_read.specs.Forms.{Form, CheckLine, spelled, IsSpelling}
+use Rattle.lit_syntax.specs.declared.symbol.Symbol.{Symbol}
+use Rattle.lit_syntax.specs.declared.symbol.Symbol.TheVariants.{Same, Differs, And, Or, CloseParen, Dot}
+use Rattle.lit_syntax.specs.Tokens.{Token, Word, Number, Sign}
+use Rattle.lit_syntax.specs.Written.{Comparison, Operand, Compared, Negated, Grouped, Conjunction, Lone, Both, Written, Single, Either, register_word, comparison_tokens, operand_tokens, conjunction_tokens, written_tokens}
+use Rattle.lit_syntax.specs.Forms.{Form, CheckLine, spelled, IsSpelling}
 use Rattle.lit_read.specs.Faults.{is_check_line}
 use Rattle.lit_read.specs.Internal.FormOfTokens.{fixed_form}
-use Rattle.lit_read.proofs.ListLemmas.{tail_is}
+use Rattle.lit_syntax.proofs.ListLemmas.{tail_is}
 use Rattle.lit_read.proofs.FormLemmas.{fixed_form_again, check_of}
 
 -- ---- conditions

@@ -6,8 +6,8 @@ use Rattle.std.proofs.lemmas.List.{append-nil}
 use Rattle.std.proofs.lemmas.Bool.{and_parts}
 use Rattle.std.proofs.lemmas.List.Sums.{fold-append}
 use Rattle.std.proofs.lemmas.List.Folds.{list_any-append}
-use Rattle.lit_read.specs.Syntax.{Statement, Statements, Load, Store, Exchange, CompareExchange, If, End, Then}
-use Rattle.lit_read.specs.Forms.{Form, Blank, TestLine, BytesLine, AgentLine, StatementLine, IfLine, ElseLine, EndLine, CheckLine, IsForm}
+use Rattle.lit_syntax.specs.Syntax.{Statement, Statements, Load, Store, Exchange, CompareExchange, If, End, Then}
+use Rattle.lit_syntax.specs.Forms.{Form, Blank, TestLine, BytesLine, AgentLine, StatementLine, IfLine, ElseLine, EndLine, CheckLine, IsForm}
 use Rattle.lit_read.specs.Structure.{is_body_line, IsStatement, AreStatements, AreElse, IsOpenPart, LeaveOpen}
 use Rattle.lit_read.specs.Faults.{is_agent_line, is_check_line, is_begun, open_behind, open_ifs, is_in_then, is_empty, is_misplaced, none_misplaced}
 use Rattle.lit_read.specs.Internal.State.{followed_by}

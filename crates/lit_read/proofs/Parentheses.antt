@@ -1,15 +1,15 @@
 -- What a condition asks tells its tokens but the parentheses.
 use Rattle.std.proofs.Common.{◌≡◌, ℕ, Bool, true, false, cond, not, List, [], ◌∷◌, ◌++◌, refl, ap, sym, subst, ◌∙◌}
 use Rattle.std.proofs.lemmas.List.{append-nil}
-use Rattle.lit_read.specs.declared.tokens.symbols.Symbol.{Symbol}
-use Rattle.lit_read.specs.declared.tokens.symbols.Symbol.TheVariants.{And, Or, CloseParen}
-use Rattle.lit_read.specs.declared.tokens.symbols.Symbol.TheVariants.{Not as Bang}
-use Rattle.lit_read.specs.Tokens.{Token, Sign}
-use Rattle.lit_read.specs.Syntax.{End, Condition, Conditions, Any, All, Not, Is, NoMore, Also, Litmus, IsConditionOn, AreConditionsOn, IsLitmus}
-use Rattle.lit_read.specs.Forms.{Form}
-use Rattle.lit_read.specs.Written.{Comparison, comparison_tokens, Operand, Compared, Negated, Grouped, Conjunction, Lone, Both, Written, Single, Either, operand_tokens, conjunction_tokens, written_tokens}
+use Rattle.lit_syntax.specs.declared.symbol.Symbol.{Symbol}
+use Rattle.lit_syntax.specs.declared.symbol.Symbol.TheVariants.{And, Or, CloseParen}
+use Rattle.lit_syntax.specs.declared.symbol.Symbol.TheVariants.{Not as Bang}
+use Rattle.lit_syntax.specs.Tokens.{Token, Sign}
+use Rattle.lit_syntax.specs.Syntax.{End, Condition, Conditions, Any, All, Not, Is, NoMore, Also, Litmus, IsConditionOn, AreConditionsOn, IsLitmus}
+use Rattle.lit_syntax.specs.Forms.{Form}
+use Rattle.lit_syntax.specs.Written.{Comparison, comparison_tokens, Operand, Compared, Negated, Grouped, Conjunction, Lone, Both, Written, Single, Either, operand_tokens, conjunction_tokens, written_tokens}
 use Rattle.lit_read.specs.Spelling.{operand_value, conjunction_value, written_value, operand_values, conjunction_values, AreFormsOf}
-use Rattle.lit_read.specs.Parentheses.{named, is_parenthesis, without_parentheses}
+use Rattle.lit_syntax.specs.Parentheses.{named, is_parenthesis, without_parentheses}
 use Rattle.lit_read.proofs.CheckAsks.{named_there}
 
 joined_bare : (xs ys : List Token) → without_parentheses (xs ++ ys) ≡ without_parentheses xs ++ without_parentheses ys

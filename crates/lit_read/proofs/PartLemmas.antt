@@ -4,14 +4,14 @@ use Rattle.std.specs.List.{AllByRecursion, list_any, list_all}
 use Rattle.std.specs.Str.{bytes_eq}
 use Rattle.std.proofs.lemmas.Bool.{leb-true, and_parts}
 use Rattle.std.proofs.lemmas.Slice.Eq.{bytes_eq-Decides}
-use Rattle.lit_read.specs.declared.limits.TheConstants.{REGISTERS, COMPARED_LIMIT, IF_LIMIT}
-use Rattle.lit_read.specs.Syntax.{fits_window, Statement, Load, Store, Exchange, CompareExchange, If, Statements, End, Then, Agent, Litmus, writes, nesting, statement_nesting, IsStatementIn, AreStatementsIn, IsConditionOn, AreConditionsOn, IsLitmus}
-use Rattle.lit_read.specs.Tokens.{IsWord}
-use Rattle.lit_read.specs.Written.{Comparison, Operand, Compared, Negated, Grouped, Conjunction, Lone, Both, Written, Single, Either, operand_depths, conjunction_depths, written_depths, is_shallow}
-use Rattle.lit_read.specs.Forms.{IsAccess}
+use Rattle.lit_syntax.specs.declared.limits.TheConstants.{REGISTERS, COMPARED_LIMIT, IF_LIMIT}
+use Rattle.lit_syntax.specs.Syntax.{fits_window, Statement, Load, Store, Exchange, CompareExchange, If, Statements, End, Then, Agent, Litmus, writes, nesting, statement_nesting, IsStatementIn, AreStatementsIn, IsConditionOn, AreConditionsOn, IsLitmus}
+use Rattle.lit_syntax.specs.Tokens.{IsWord}
+use Rattle.lit_syntax.specs.Written.{Comparison, Operand, Compared, Negated, Grouped, Conjunction, Lone, Both, Written, Single, Either, operand_depths, conjunction_depths, written_depths, is_shallow}
+use Rattle.lit_syntax.specs.Forms.{IsAccess}
 use Rattle.lit_read.specs.Faults.{has_fitting_literals, stays_in_block, has_small_numbers}
 use Rattle.lit_read.specs.Spelling.{place_of, numbered, operand_value, conjunction_value, written_value, operand_values, conjunction_values}
-use Rattle.lit_read.proofs.ListLemmas.{all_parts}
+use Rattle.lit_syntax.proofs.ListLemmas.{all_parts}
 use Rattle.lit_read.proofs.DepthLemmas.{operands_count, conjunctions_count, stays_shallow}
 use Rattle.lit_read.specs.Internal.State.{followed_by, body_named, is_known, are_known, AreDistinct, IsPart, AreAgentsIn}
 

@@ -5,10 +5,10 @@ use Rattle.std.proofs.lemmas.Bool.{cases_lt}
 use Rattle.std.proofs.lemmas.List.{append-nil, length-append, take_at}
 use Rattle.lit_read.specs.declared.fault.ReadKind.{ReadKind}
 use Rattle.lit_read.specs.declared.fault.ReadKind.TheVariants.{TooLong, NotAscii, Syntax, Misplaced, BlockSize, TooManyAgents, DuplicateAgent, LiteralRange, OutOfBlock, UnknownName, TooDeep, MissingPart, OutOfMemory}
-use Rattle.lit_read.specs.declared.limits.TheConstants.{TEXT_LIMIT}
-use Rattle.lit_read.specs.Syntax.{Litmus}
+use Rattle.lit_syntax.specs.declared.limits.TheConstants.{TEXT_LIMIT}
+use Rattle.lit_syntax.specs.Syntax.{Litmus}
 use Rattle.lit_read.specs.Lines.{lines_of, lines_from, onto_first}
-use Rattle.lit_read.specs.Forms.{Form, HasForm, HaveForms, without_blanks}
+use Rattle.lit_syntax.specs.Forms.{Form, HasForm, HaveForms, without_blanks}
 use Rattle.lit_read.specs.Faults.{number_of, is_allowed, is_check_line, is_faulty, HasLineFault, HasFault, IsFirstFault, IsReadFault}
 use Rattle.lit_read.specs.Spelling.{Spells}
 use Rattle.lit_read.specs.Internal.State.{State, Empty, Whole, IsState, IsUnfinished}

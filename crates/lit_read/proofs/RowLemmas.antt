@@ -7,13 +7,13 @@ use Rattle.std.proofs.lemmas.Bool.{eqb-true, ltb-true, leb-true, and_parts}
 use Rattle.std.proofs.lemmas.Slice.Eq.{bytes_eq-Decides}
 use Rattle.std.proofs.lemmas.Option.{cond_some}
 use Rattle.lit_read.specs.declared.forms.Form as lines
-use Rattle.lit_read.specs.declared.tokens.symbols.Symbol.{Symbol}
-use Rattle.lit_read.specs.declared.tokens.symbols.Symbol.TheVariants.{Same, Differs, And, Or, Gives, Not, OpenBracket, CloseBracket, OpenParen, CloseParen, OpenBrace, CloseBrace, Comma, Dot}
-use Rattle.lit_read.specs.declared.limits.TheConstants.{REGISTERS}
-use Rattle.lit_read.specs.Syntax.{Window, Uint8, Uint16, Uint32, is_data_view}
-use Rattle.lit_read.specs.Tokens.{Token, Word, Number, Sign}
-use Rattle.lit_read.specs.Written.{register_word}
-use Rattle.lit_read.specs.Forms.{Form, window_word}
+use Rattle.lit_syntax.specs.declared.symbol.Symbol.{Symbol}
+use Rattle.lit_syntax.specs.declared.symbol.Symbol.TheVariants.{Same, Differs, And, Or, Gives, Not, OpenBracket, CloseBracket, OpenParen, CloseParen, OpenBrace, CloseBrace, Comma, Dot}
+use Rattle.lit_syntax.specs.declared.limits.TheConstants.{REGISTERS}
+use Rattle.lit_syntax.specs.Syntax.{Window, Uint8, Uint16, Uint32, is_data_view}
+use Rattle.lit_syntax.specs.Tokens.{Token, Word, Number, Sign}
+use Rattle.lit_syntax.specs.Written.{register_word}
+use Rattle.lit_syntax.specs.Forms.{Form, window_word}
 use Rattle.lit_read.specs.Internal.FirstToken.{or_else}
 use Rattle.lit_read.specs.Internal.FormOfTokens.{◌>>=◌, symbol_code, after_sign, word_of, number_of, after_word, register_number, register_of, window_named, view_of, relation_of, ended, Item, Symbols, Keyword, Name, Register, View, Amount, Relation, Told, along, front, ToldParts, in_parts}
 use Rattle.lit_read.specs.Internal.Views.{form_view}

@@ -4,14 +4,13 @@ use Rattle.std.specs.Prelude.{codes}
 use Rattle.std.specs.Global.{Vec}
 use Rattle.std.proofs.lemmas.Bool.{ltb-false}
 use Rattle.std.proofs.lemmas.List.{append-nil, drop_all}
-use Rattle.lit_read.specs.declared.syntax.Cond.{Cond}
-use Rattle.lit_read.specs.declared.syntax.Cond as code
-use Rattle.lit_read.specs.Syntax.{Condition, Conditions, Any, All, Not, Is, NoMore, Also, condition_count, Agent, Litmus, IsConditionOn, AreConditionsOn}
-use Rattle.lit_read.specs.Litmus.{condition_of}
-use Rattle.lit_read.specs.Parentheses.{operand_of, conjunction_of, all_written, any_written}
+use Rattle.lit_syntax.specs.declared.syntax.Cond.{Cond}
+use Rattle.lit_syntax.specs.declared.syntax.Cond as code
+use Rattle.lit_syntax.specs.Syntax.{Condition, Conditions, Any, All, Not, Is, NoMore, Also, condition_count, Agent, Litmus, IsConditionOn, AreConditionsOn}
+use Rattle.lit_syntax.specs.Litmus.{condition_of, conditions_view}
+use Rattle.lit_syntax.specs.Parentheses.{operand_of, conjunction_of, all_written, any_written}
 use Rattle.lit_read.specs.CanonicalText.{operand_text, conjunction_text, written_text}
-use Rattle.lit_read.specs.Internal.Views.{conditions_view}
-use Rattle.lit_read.proofs.TreeViews.{all_views, any_views}
+use Rattle.lit_syntax.proofs.TreeViews.{all_views, any_views}
 
 -- ---- members, each but the first behind a sign
 

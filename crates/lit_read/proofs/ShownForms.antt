@@ -3,15 +3,15 @@ use Rattle.std.proofs.Common.{◌≡◌, ℕ, zero, suc, ◌+◌, ◌<◌, ◌�
 use Rattle.std.specs.Prelude.{codes, OnOk, is_ok}
 use Rattle.std.specs.Global.{Vec}
 use Rattle.std.proofs.lemmas.List.{append-nil, drop_all}
-use Rattle.lit_read.specs.declared.syntax.Stmt.{Stmt}
-use Rattle.lit_read.specs.declared.syntax.Stmt as stmt
-use Rattle.lit_read.specs.Syntax.{Statement, End, Agent, Litmus}
-use Rattle.lit_read.specs.Litmus.{statement_of, statements_of}
-use Rattle.lit_read.specs.Forms.{Form, TestLine, BytesLine, AgentLine, IfLine, EndLine, CheckLine}
+use Rattle.lit_syntax.specs.declared.syntax.Stmt.{Stmt}
+use Rattle.lit_syntax.specs.declared.syntax.Stmt as stmt
+use Rattle.lit_syntax.specs.Syntax.{Statement, End, Agent, Litmus}
+use Rattle.lit_syntax.specs.Litmus.{statement_of, statements_of}
+use Rattle.lit_syntax.specs.Forms.{Form, TestLine, BytesLine, AgentLine, IfLine, EndLine, CheckLine}
 use Rattle.lit_read.specs.Canonical.{statement_forms, statements_forms, else_forms, agents_forms}
-use Rattle.lit_read.specs.Parentheses.{written_of}
+use Rattle.lit_syntax.specs.Parentheses.{written_of}
 use Rattle.lit_read.specs.CanonicalText.{form_text, forms_text, canonical}
-use Rattle.lit_read.proofs.TreeViews.{if_views}
+use Rattle.lit_syntax.proofs.TreeViews.{if_views}
 
 pub forms_text-append : (fs gs : List Form) → forms_text (fs ++ gs) ≡ forms_text fs ++ forms_text gs
 forms_text-append [] gs = refl

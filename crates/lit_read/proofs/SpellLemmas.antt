@@ -5,8 +5,8 @@ use Rattle.std.specs.List.{list_any, list_all}
 use Rattle.std.proofs.lemmas.List.{append-nil}
 use Rattle.std.proofs.lemmas.List.Sums.{fold-append}
 use Rattle.std.proofs.lemmas.List.Folds.{list_any-append}
-use Rattle.lit_read.specs.Syntax.{Statement, Statements, Load, Store, Exchange, CompareExchange, If, End, Then, statement_writes, writes}
-use Rattle.lit_read.specs.Forms.{Form, EndLine}
+use Rattle.lit_syntax.specs.Syntax.{Statement, Statements, Load, Store, Exchange, CompareExchange, If, End, Then, statement_writes, writes}
+use Rattle.lit_syntax.specs.Forms.{Form, EndLine}
 use Rattle.lit_read.specs.Structure.{is_body_line, IsStatement, AreStatements, AreElse}
 use Rattle.lit_read.specs.Faults.{open_behind, line_writes}
 use Rattle.lit_read.specs.Internal.State.{followed_by}

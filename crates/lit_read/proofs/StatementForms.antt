@@ -4,14 +4,15 @@ use Rattle.std.specs.List.{filter}
 use Rattle.std.proofs.lemmas.List.{append-nil, length-append, length-map}
 use Rattle.std.proofs.lemmas.List.Elements.{filter-append}
 use Rattle.std.proofs.lemmas.Option.{get_or_from_slice_get, slice_get-get_or}
-use Rattle.lit_read.specs.Syntax.{Statement, Statements, Load, Store, Exchange, CompareExchange, If, End, Then, Agent, Litmus, agent_of}
+use Rattle.lit_syntax.specs.Syntax.{Statement, Statements, Load, Store, Exchange, CompareExchange, If, End, Then, Agent, Litmus, agent_of}
 use Rattle.lit_read.specs.Lines.{lines_of}
-use Rattle.lit_read.specs.Tokens.{Token, CutsInto}
-use Rattle.lit_read.specs.Forms.{Form, Blank, TestLine, BytesLine, AgentLine, StatementLine, IfLine, ElseLine, EndLine, CheckLine, IsSpelling, HasForm, HaveForms, without_blanks}
+use Rattle.lit_syntax.specs.Tokens.{Token, CutsInto}
+use Rattle.lit_syntax.specs.Forms.{Form, Blank, TestLine, BytesLine, AgentLine, StatementLine, IfLine, ElseLine, EndLine, CheckLine, IsSpelling, HasForm, HaveForms, without_blanks}
 use Rattle.lit_read.specs.Structure.{IsStatement, AreStatements, AreElse, AreAgents}
 use Rattle.lit_read.specs.Spelling.{AreFormsOf, Spells}
-use Rattle.lit_read.specs.StatementOrder.{count_with_parts, statement_count, statement_begun, statements_begun, agents_count, agents_begun, forms_begun, statements_before}
+use Rattle.lit_syntax.specs.StatementOrder.{statement_count, statement_begun, statements_begun, agents_count, agents_begun, forms_begun, statements_before}
 use Rattle.lit_read.specs.StatementLines.{begins_statement, BeginsStatement, ListsStatementLines, BeginsOnLine, line_of}
+use Rattle.lit_syntax.proofs.CountLemmas.{statements_counted}
 use Rattle.lit_read.proofs.ReadLemmas.{form_once}
 use Rattle.lit_read.proofs.ListedLines.{ListsAfter, after_start, without, first_left, none_left, line_listed, begun_here, not_begun_here}
 
@@ -114,19 +115,6 @@ lines_have_forms text t lines spells l =
     (have_forms text 0 [] (lines_of text) spells.forms lines refl refl spells.lines (after_start text lines l))
 
 -- ---- how many there are
-
-mutual
-  pub statement_counted : (s : Statement) → length (statement_begun s) ≡ count_with_parts s
-  statement_counted (Load r w i a) = refl
-  statement_counted (Store w i v a) = refl
-  statement_counted (Exchange r w i v) = refl
-  statement_counted (CompareExchange r w i e v) = refl
-  statement_counted (If r e v body other) =
-      omega (arith, length-append (statements_begun body) (statements_begun other), statements_counted body, statements_counted other)
-
-  pub statements_counted : (ss : Statements) → length (statements_begun ss) ≡ statement_count ss
-  statements_counted End = refl
-  statements_counted (Then s ss) = omega (arith, length-append (statement_begun s) (statements_begun ss), statement_counted s, statements_counted ss)
 
 agents_counted : (agents : List Agent) → length (agents_begun agents) ≡ agents_count agents
 agents_counted [] = refl

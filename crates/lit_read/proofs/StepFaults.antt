@@ -5,10 +5,10 @@ use Rattle.std.specs.Str.{bytes_eq}
 use Rattle.std.proofs.lemmas.List.{length-append}
 use Rattle.lit_read.specs.declared.fault.ReadKind.{ReadKind}
 use Rattle.lit_read.specs.declared.fault.ReadKind.TheVariants.{TooLong, NotAscii, Syntax, Misplaced, BlockSize, TooManyAgents, DuplicateAgent, LiteralRange, OutOfBlock, UnknownName, TooDeep, MissingPart, OutOfMemory}
-use Rattle.lit_read.specs.declared.limits.TheConstants.{BLOCK_LIMIT, AGENT_LIMIT, COMPARED_LIMIT, IF_LIMIT}
-use Rattle.lit_read.specs.Syntax.{Statement, Statements, End, Agent, writes}
-use Rattle.lit_read.specs.Written.{Comparison, Written, written_depths, is_shallow}
-use Rattle.lit_read.specs.Forms.{Form, Blank, TestLine, BytesLine, AgentLine, StatementLine, IfLine, ElseLine, EndLine, CheckLine}
+use Rattle.lit_syntax.specs.declared.limits.TheConstants.{BLOCK_LIMIT, AGENT_LIMIT, COMPARED_LIMIT, IF_LIMIT}
+use Rattle.lit_syntax.specs.Syntax.{Statement, Statements, End, Agent, writes}
+use Rattle.lit_syntax.specs.Written.{Comparison, Written, written_depths, is_shallow}
+use Rattle.lit_syntax.specs.Forms.{Form, Blank, TestLine, BytesLine, AgentLine, StatementLine, IfLine, ElseLine, EndLine, CheckLine}
 use Rattle.lit_read.specs.Faults.{number_of, block_of, names_of, open_ifs, agent_writes, is_misplaced, is_wrong_block, is_one_agent_more, is_known_agent, has_fitting_literals, has_small_numbers, has_large_literal, stays_in_block, leaves_block, has_unknown_name, is_too_deep, is_faulty, is_in_then}
 use Rattle.lit_read.specs.Spelling.{written_value}
 use Rattle.lit_read.specs.Internal.State.{State, Empty, Named, Sized, Open, Whole, OpenIf, followed_by, with_agent, body_named, is_known, are_known, else_from, test_step, block_step, next_step, agent_step, statement_step, if_step, else_step, end_step, test_of, whole, check_step, step}

@@ -2,14 +2,14 @@
 use Rattle.std.proofs.Common.{◌≡◌, ℕ, Bool, true, false, cond, ◌&&◌, List, [], ◌∷◌, ◌++◌, Option, None, inl, inr, refl, ap, sym, ◌∙◌, append_assoc}
 use Rattle.std.specs.Prelude.{fold}
 use Rattle.std.proofs.lemmas.List.Sums.{fold-append}
-use Rattle.lit_read.specs.Syntax.{Statement, Statements, Load, Store, Exchange, CompareExchange, If, End, Then, Agent, Condition, Litmus}
-use Rattle.lit_read.specs.Written.{Written}
-use Rattle.lit_read.specs.Forms.{Form, Blank, TestLine, BytesLine, AgentLine, StatementLine, IfLine, ElseLine, EndLine, CheckLine}
+use Rattle.lit_syntax.specs.Syntax.{Statement, Statements, Load, Store, Exchange, CompareExchange, If, End, Then, Agent, Condition, Litmus}
+use Rattle.lit_syntax.specs.Written.{Written}
+use Rattle.lit_syntax.specs.Forms.{Form, Blank, TestLine, BytesLine, AgentLine, StatementLine, IfLine, ElseLine, EndLine, CheckLine}
 use Rattle.lit_read.specs.Structure.{is_body_line, IsStatement, AreStatements, AreElse, AreAgents}
 use Rattle.lit_read.specs.Spelling.{written_value, AreFormsOf}
 use Rattle.lit_read.specs.Canonical.{statement_forms, statements_forms, else_forms, agents_forms, starts_with_end, without_empty_elses}
 use Rattle.lit_read.specs.Internal.State.{OpenIf, followed_by, else_open_if, ended_if}
-use Rattle.lit_read.proofs.ListLemmas.{tail_is}
+use Rattle.lit_syntax.proofs.ListLemmas.{tail_is}
 use Rattle.lit_read.proofs.SpellLemmas.{are_body_lines, statements_body}
 
 -- ---- the statements that lines make

@@ -4,10 +4,10 @@ use Rattle.std.specs.List.{list_any}
 use Rattle.std.specs.Str.{bytes_eq}
 use Rattle.std.proofs.lemmas.Bool.{leb-true, le-ltb, eqb-true, and_from}
 use Rattle.std.proofs.lemmas.List.{length-append, append-nil}
-use Rattle.lit_read.specs.declared.limits.TheConstants.{BLOCK_LIMIT, AGENT_LIMIT, COMPARED_LIMIT, IF_LIMIT}
-use Rattle.lit_read.specs.Syntax.{fits_window, Statement, Statements, Load, Store, Exchange, CompareExchange, If, End, Then, IsStatementIn, AreStatementsIn, statement_nesting, nesting, Condition, Agent, Litmus, IsLitmus}
-use Rattle.lit_read.specs.Written.{Written, is_shallow}
-use Rattle.lit_read.specs.Forms.{Form, TestLine, BytesLine, AgentLine, StatementLine, IfLine, ElseLine, EndLine, CheckLine}
+use Rattle.lit_syntax.specs.declared.limits.TheConstants.{BLOCK_LIMIT, AGENT_LIMIT, COMPARED_LIMIT, IF_LIMIT}
+use Rattle.lit_syntax.specs.Syntax.{fits_window, Statement, Statements, Load, Store, Exchange, CompareExchange, If, End, Then, IsStatementIn, AreStatementsIn, statement_nesting, nesting, Condition, Agent, Litmus, IsLitmus}
+use Rattle.lit_syntax.specs.Written.{Written, is_shallow}
+use Rattle.lit_syntax.specs.Forms.{Form, TestLine, BytesLine, AgentLine, StatementLine, IfLine, ElseLine, EndLine, CheckLine}
 use Rattle.lit_read.specs.Structure.{IsStatement, AreStatements, AreElse, AreAgents}
 use Rattle.lit_read.specs.Faults.{has_fitting_literals, stays_in_block}
 use Rattle.lit_read.specs.Spelling.{written_value, AreFormsOf}

@@ -8,7 +8,7 @@ use Rattle.std.proofs.lemmas.Bool.Decides.{nat_tests}
 use Rattle.std.proofs.lemmas.List.{get_or_past, get_or-take}
 use Rattle.std.proofs.lemmas.List.Sums.{prefix_len_passes}
 use Rattle.std.proofs.lemmas.List.Folds.{length-prefix_len}
-use Rattle.lit_read.specs.Tokens.{is_in_word}
+use Rattle.lit_syntax.specs.Tokens.{is_in_word}
 
 word_byte_small : (b : ℕ) → is_in_word b ≡ true → b < 128
 word_byte_small b h = grind (arith, nat_tests)

@@ -7,12 +7,12 @@ use Rattle.lit_read.specs.declared.fault.ReadKind.{ReadKind}
 use Rattle.lit_read.specs.declared.fault.ReadKind.TheVariants.{TooLong, NotAscii, Syntax, Misplaced, BlockSize, TooManyAgents}
 use Rattle.lit_read.specs.declared.fault.ReadKind.TheVariants.{DuplicateAgent, LiteralRange, OutOfBlock}
 use Rattle.lit_read.specs.declared.fault.ReadKind.TheVariants.{UnknownName, TooDeep, MissingPart, OutOfMemory}
-use Rattle.lit_read.specs.declared.limits.TheConstants.{TEXT_LIMIT, BLOCK_LIMIT, AGENT_LIMIT, COMPARED_LIMIT, IF_LIMIT}
-use Rattle.lit_read.specs.Syntax.{is_in_block, fits_window, Statement, Load, Store, Exchange, CompareExchange, If, statement_writes}
+use Rattle.lit_syntax.specs.declared.limits.TheConstants.{TEXT_LIMIT, BLOCK_LIMIT, AGENT_LIMIT, COMPARED_LIMIT, IF_LIMIT}
+use Rattle.lit_syntax.specs.Syntax.{is_in_block, fits_window, Statement, Load, Store, Exchange, CompareExchange, If, statement_writes}
 use Rattle.lit_read.specs.Lines.{lines_of}
-use Rattle.lit_read.specs.Written.{Written, written_depths, is_shallow}
-use Rattle.lit_read.specs.Forms.{Form, Blank, TestLine, BytesLine, AgentLine, StatementLine, IfLine}
-use Rattle.lit_read.specs.Forms.{ElseLine, EndLine, CheckLine, HasForm, HaveForms, without_blanks}
+use Rattle.lit_syntax.specs.Written.{Written, written_depths, is_shallow}
+use Rattle.lit_syntax.specs.Forms.{Form, Blank, TestLine, BytesLine, AgentLine, StatementLine, IfLine}
+use Rattle.lit_syntax.specs.Forms.{ElseLine, EndLine, CheckLine, HasForm, HaveForms, without_blanks}
 
 -- the numbers of the faults
 abbrev pub number_of : ReadKind → ℕ

@@ -1,14 +1,5 @@
-pub mod Trees
-pub mod Syntax
-pub mod SyntaxCodes
-pub mod Litmus
 pub mod Lines
-pub mod Tokens
-pub mod Written
-pub mod Parentheses
-pub mod Forms
 pub mod Structure
-pub mod StatementOrder
 pub mod Faults
 pub mod FaultNames
 pub mod Spelling

@@ -2,10 +2,10 @@
 use Rattle.std.specs.Prelude.{◌≡◌, ℕ, ◌+◌, if◌then◌else◌, List, [], ◌∷◌, ◌++◌}
 use Rattle.std.specs.Str.{bytes_eq}
 use Rattle.lit_read.specs.declared.fault.ReadKind.{ReadKind}
-use Rattle.lit_read.specs.Syntax.{Condition, Conditions, Any, All, Not, Is, NoMore, Also, Agent, Litmus}
+use Rattle.lit_syntax.specs.Syntax.{Condition, Conditions, Any, All, Not, Is, NoMore, Also, Agent, Litmus}
 use Rattle.lit_read.specs.Lines.{lines_of}
-use Rattle.lit_read.specs.Written.{Comparison, Operand, Compared, Negated, Grouped, Conjunction, Lone, Both, Written, Single, Either}
-use Rattle.lit_read.specs.Forms.{Form, TestLine, BytesLine, CheckLine, HaveForms, without_blanks}
+use Rattle.lit_syntax.specs.Written.{Comparison, Operand, Compared, Negated, Grouped, Conjunction, Lone, Both, Written, Single, Either}
+use Rattle.lit_syntax.specs.Forms.{Form, TestLine, BytesLine, CheckLine, HaveForms, without_blanks}
 use Rattle.lit_read.specs.Structure.{AreAgents}
 use Rattle.lit_read.specs.Faults.{HasFault}
 

@@ -1,9 +1,9 @@
 -- The lines of a text on which its statements begin (this project's own).
 use Rattle.std.specs.Prelude.{◌≡◌, ℕ, ◌+◌, ◌-◌, ◌<◌, ◌≤◌, Bool, true, false, List, [], Some, slice_get, slice_index_or}
-use Rattle.lit_read.specs.Syntax.{Litmus, agent_of}
+use Rattle.lit_syntax.specs.Syntax.{Litmus, agent_of}
 use Rattle.lit_read.specs.Lines.{lines_of}
-use Rattle.lit_read.specs.Forms.{Form, StatementLine, IfLine, HasForm}
-use Rattle.lit_read.specs.StatementOrder.{statements_begun, statements_before}
+use Rattle.lit_syntax.specs.Forms.{Form, StatementLine, IfLine, HasForm}
+use Rattle.lit_syntax.specs.StatementOrder.{statements_begun, statements_before}
 
 -- whether a statement begins with a line of this form: an access has one line, and an `if` has an `if` line first
 abbrev pub begins_statement : Form → Bool

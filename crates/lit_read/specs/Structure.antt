@@ -1,7 +1,7 @@
 -- Which forms, one after the other, are those of statements and of agents (this project's own).
 use Rattle.std.specs.Prelude.{◌≡◌, ℕ, Bool, true, false, List, [], ◌∷◌, ◌++◌, ◌⊎◌}
-use Rattle.lit_read.specs.Syntax.{Statement, Statements, Load, Store, Exchange, CompareExchange, If, End, Then, Agent}
-use Rattle.lit_read.specs.Forms.{Form, AgentLine, StatementLine, IfLine, ElseLine, EndLine}
+use Rattle.lit_syntax.specs.Syntax.{Statement, Statements, Load, Store, Exchange, CompareExchange, If, End, Then, Agent}
+use Rattle.lit_syntax.specs.Forms.{Form, AgentLine, StatementLine, IfLine, ElseLine, EndLine}
 
 -- An access has one line. An `if` has its line, the lines of the then-part, perhaps an else line and the lines of the
 -- else-part, and an end line. The else line may stand there with an empty part.

@@ -7,10 +7,10 @@ pub(crate) mod conditions;
 ghost use Rattle.std.specs.Prelude.{◌≡◌, ◌<◌, string_bytes, false, IfOk, Ok};
 ghost use Rattle.std.specs.List.{list_any};
 ghost use Rattle.std.specs.Str.{bytes_eq};
-ghost use Rattle.lit_read.specs.Litmus.{statements_of};
+ghost use Rattle.lit_syntax.specs.Litmus.{statements_of, agents_view};
 ghost use Rattle.lit_read.specs.Internal.State.{test_step, block_step, agent_step, statement_step, if_step, else_step};
 ghost use Rattle.lit_read.specs.Internal.State.{end_step, step, check_step, with_agent, followed_by, IsState};
-ghost use Rattle.lit_read.specs.Internal.Views.{Returns, state_view, form_view, open_view, agents_view};
+ghost use Rattle.lit_read.specs.Internal.Views.{Returns, state_view, form_view, open_view};
 
 use crate::draft::accesses::checked_access;
 use crate::draft::checking::{are_known, are_small};
@@ -18,10 +18,8 @@ use crate::draft::conditions::condition;
 use crate::fault::ReadKind;
 use crate::forms::marks::Mark;
 use crate::forms::{Access, Form, Line};
-use crate::limits::{AGENT_LIMIT, BLOCK_LIMIT, COMPARED_LIMIT, IF_LIMIT};
-use crate::syntax::Stmt;
-use crate::test::Test;
 use indexmap::IndexMap;
+use lit_syntax::{AGENT_LIMIT, BLOCK_LIMIT, COMPARED_LIMIT, IF_LIMIT, Stmt, Test};
 use std::alloc::{AllocError, Global};
 
 /// An open `if`: its line, the statements before it, and the then-part once the else line has come.
@@ -72,7 +70,7 @@ fn with_last(
 }
 
 impl OpenIf {
-    ghost use Rattle.lit_read.specs.Litmus.{statement_of};
+    ghost use Rattle.lit_syntax.specs.Litmus.{statement_of};
     ghost use Rattle.lit_read.specs.Internal.State.{ended_if};
     ghost use Rattle.lit_read.specs.Internal.Views.{open_if_view, part_view};
 
@@ -107,9 +105,9 @@ impl OpenIf {
 }
 
 impl Open {
-    ghost use Rattle.lit_read.specs.Litmus.{statement_of};
-    ghost use Rattle.lit_read.specs.Written.{Written};
-    ghost use Rattle.lit_read.specs.Forms.{IsForm, CheckLine};
+    ghost use Rattle.lit_syntax.specs.Litmus.{statement_of};
+    ghost use Rattle.lit_syntax.specs.Written.{Written};
+    ghost use Rattle.lit_syntax.specs.Forms.{IsForm, CheckLine};
     ghost use Rattle.lit_read.specs.Internal.Marks.{written_marks};
     ghost use Rattle.lit_read.specs.Internal.State.{Whole, with_statement};
     ghost use Rattle.lit_read.specs.Internal.Views.{access_view, mark_views};
@@ -248,18 +246,13 @@ impl Open {
             return Err(ReadKind::UnknownName);
         }
         let check = condition(alloc, &agents, marks)?;
-        Ok(Test {
-            name: self.name,
-            bytes: self.bytes,
-            agents,
-            check,
-        })
+        Ok(Test::new(self.name, self.bytes, agents, check))
     }
 }
 
 impl Draft {
-    ghost use Rattle.lit_read.specs.Forms as shapes;
-    ghost use Rattle.lit_read.specs.Forms.{IsForm};
+    ghost use Rattle.lit_syntax.specs.Forms as shapes;
+    ghost use Rattle.lit_syntax.specs.Forms.{IsForm};
     ghost use Rattle.lit_read.specs.Internal.Views.{Shows};
 
     #[tactic(auto, unfolding(crate::specs::Internal::State::test_step))]

@@ -12,12 +12,11 @@ ghost use Rattle.lit_read.specs.Internal.Views.{token_views, form_view, Shows};
 
 use crate::forms::access_forms::{array_form, view_form};
 use crate::forms::marks::{Mark, marks_of};
-use crate::syntax::View;
 use crate::tokens::Token;
 use crate::tokens::front::{
     after_sign, after_word, ended, number_of, register_of, relation_of, word_of,
 };
-use crate::tokens::symbols::Symbol;
+use lit_syntax::{Symbol, View};
 use std::alloc::{AllocError, Global};
 
 /// An access, with its numbers as they stand in the text.

@@ -4,19 +4,19 @@
 ghost use Rattle.std.specs.Prelude.{◌≡◌, ◌<◌, ◌≤◌, ◌⊎◌, ◌∷◌, ◌++◌, [], ℕ, Bool, List, length, map, true};
 ghost use Rattle.std.specs.List.{list_all, AllByRecursion};
 ghost use Rattle.lit_read.specs.declared.fault.ReadKind.{ReadKind};
-ghost use Rattle.lit_read.specs.declared.limits.TheConstants.{TEXT_LIMIT};
-ghost use Rattle.lit_read.specs.Syntax.{Litmus, IsLitmus, Statements, agent_of};
+ghost use Rattle.lit_syntax.specs.declared.limits.TheConstants.{TEXT_LIMIT};
+ghost use Rattle.lit_syntax.specs.Syntax.{Litmus, IsLitmus, Statements, agent_of};
 ghost use Rattle.lit_read.specs.Lines.{lines_of, ended_lines, is_whole_line};
-ghost use Rattle.lit_read.specs.Tokens.{Token, CutsInto};
-ghost use Rattle.lit_read.specs.Written.{written_tokens, is_shallow};
-ghost use Rattle.lit_read.specs.Forms.{Form, IsForm, HasForm, HaveForms, without_blanks};
+ghost use Rattle.lit_syntax.specs.Tokens.{Token, CutsInto};
+ghost use Rattle.lit_syntax.specs.Written.{written_tokens, is_shallow};
+ghost use Rattle.lit_syntax.specs.Forms.{Form, IsForm, HasForm, HaveForms, without_blanks};
 ghost use Rattle.lit_read.specs.Structure.{is_body_line, LeaveOpen};
 ghost use Rattle.lit_read.specs.Faults.{HasFault, IsFirstFault, is_allowed, is_begun, none_misplaced, open_ifs};
 ghost use Rattle.lit_read.specs.Spelling.{Spells, AreFormsOf};
-ghost use Rattle.lit_read.specs.StatementOrder.{statement_count, statements_begun, agents_count, forms_begun};
+ghost use Rattle.lit_syntax.specs.StatementOrder.{statement_count, statements_begun, agents_count, forms_begun};
 ghost use Rattle.lit_read.specs.StatementLines.{ListsStatementLines, BeginsOnLine, line_of};
 ghost use Rattle.lit_read.specs.Canonical.{canonical_forms, without_empty_elses};
-ghost use Rattle.lit_read.specs.Parentheses.{without_parentheses};
+ghost use Rattle.lit_syntax.specs.Parentheses.{without_parentheses};
 ghost use Rattle.lit_read.specs.CanonicalText.{canonical};
 
 /// A text is its lines, none of which has a byte 10, each with a byte 10 after it. Where the text does not end with a

@@ -1,7 +1,7 @@
 //! The lines of a text on which its statements begin.
 
 ghost use Rattle.std.specs.Prelude.{◌≡◌, ◌↔◌, ◌+◌, ◌≤◌, length, IsTrue, IfOk};
-ghost use Rattle.lit_read.specs.Forms as shapes;
+ghost use Rattle.lit_syntax.specs.Forms as shapes;
 ghost use Rattle.lit_read.specs.StatementLines.{begins_statement, BeginsStatement, ListsStatementLines};
 ghost use Rattle.lit_read.specs.Internal.Views.{Shows};
 

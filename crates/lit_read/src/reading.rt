@@ -3,9 +3,9 @@
 ghost use Rattle.std.specs.Prelude.{◌≡◌, ◌≢◌, ◌<◌, length, Ok, IfOk, IfErr, IsErrAnd, IfSome, IfNone};
 ghost use Rattle.std.specs.List.{list_all};
 ghost use Rattle.lit_read.specs.declared.fault.ReadKind.TheVariants.{TooLong};
-ghost use Rattle.lit_read.specs.declared.limits.TheConstants.{TEXT_LIMIT};
+ghost use Rattle.lit_syntax.specs.declared.limits.TheConstants.{TEXT_LIMIT};
 ghost use Rattle.lit_read.specs.Faults.{is_allowed, IsReadFault};
-ghost use Rattle.lit_read.specs.Forms.{Form};
+ghost use Rattle.lit_syntax.specs.Forms.{Form};
 ghost use Rattle.lit_read.specs.Spelling.{Spells};
 ghost use Rattle.lit_read.specs.Internal.State.{IsState, IsUnfinished, Whole};
 ghost use Rattle.lit_read.specs.Internal.Views.{state_view, Shows};
@@ -14,10 +14,9 @@ ghost use Rattle.lit_read.specs.Internal.LineSteps.{IsLine, IsNoLine, LineStep, 
 use crate::draft::Draft;
 use crate::fault::{ReadFault, ReadKind};
 use crate::forms::{Line, form_of};
-use crate::limits::TEXT_LIMIT;
 use crate::lines::split_line;
-use crate::test::Test;
 use crate::tokens::tokens_of;
+use lit_syntax::{TEXT_LIMIT, Test};
 use std::alloc::Global;
 
 /// Whether a byte may stand in a text: 9, 10, 13 and 32 to 126.

@@ -5,15 +5,15 @@ pub(crate) mod statements;
 
 ghost use Rattle.std.specs.Prelude.{◌≡◌, ◌++◌, ◌∷◌, [], IfOk, IfErr, OnOk, string_bytes};
 ghost use Rattle.lit_read.specs.declared.fault.ReadKind.TheVariants.{OutOfMemory};
-ghost use Rattle.lit_read.specs.Forms.{TestLine, BytesLine, AgentLine, CheckLine};
+ghost use Rattle.lit_syntax.specs.Forms.{TestLine, BytesLine, AgentLine, CheckLine};
 ghost use Rattle.lit_read.specs.Canonical.{agents_forms};
-ghost use Rattle.lit_read.specs.Parentheses.{written_of};
+ghost use Rattle.lit_syntax.specs.Parentheses.{written_of};
 ghost use Rattle.lit_read.specs.CanonicalText.{forms_text, canonical};
 
 use crate::fault::ReadFault;
 use crate::showing::conditions::put_condition;
 use crate::showing::statements::put_statements;
-use crate::test::Test;
+use lit_syntax::Test;
 use std::alloc::{AllocError, Global};
 
 /// Writes the first two lines.

@@ -2,8 +2,8 @@
 use Rattle.std.specs.Prelude.{◌≡◌, ℕ, List, length, Some, slice_get}
 use Rattle.std.proofs.Common.{refl}
 use Rattle.std.specs.Coded.{Coded, code_by, coded×, coded_ℕ, coded_list}
-use Rattle.lit_read.specs.Syntax.{Litmus}
-use Rattle.lit_read.specs.SyntaxCodes.{coded_litmus}
+use Rattle.lit_syntax.specs.Syntax.{Litmus}
+use Rattle.lit_syntax.specs.SyntaxCodes.{coded_litmus}
 use Rattle.lit_paths.specs.declared.event.Event.{Event}
 use Rattle.lit_paths.specs.ByteReads.{byte_reads, IsCandidate}
 use Rattle.lit_paths.specs.Choice.{AreCandidates}

@@ -13,8 +13,9 @@ ghost use Rattle.lit_paths.specs.Plan.{choices_before};
 ghost use Rattle.lit_rel.specs.Part.{IsComplete, with_sources};
 
 use lit_paths::{Plan, plan};
-use lit_read::{Test, read};
+use lit_read::read;
 use lit_rel::{Between, Part, Rows};
+use lit_syntax::Test;
 use std::alloc::AllocGlobal;
 use std::process::Abort;
 

@@ -20,13 +20,13 @@ pub use Rattle.lit_paths.specs.Path.{write_event}
 pub use Rattle.lit_paths.specs.Plan.{accesses_on, choices_before, combination_at, HasSources, IsOfCombination}
 pub use Rattle.lit_paths.specs.Run.{AgreesWith, compares, IsRun, Run, run_path}
 pub use Rattle.lit_paths.specs.declared.event.Event.{Event}
-pub use Rattle.lit_read.proofs.ListLemmas.{all_weaker}
-pub use Rattle.lit_read.proofs.TreeViews.{if_views}
-pub use Rattle.lit_read.specs.Litmus.{statement_of, statements_of}
-pub use Rattle.lit_read.specs.Syntax.{Agent, agent_of, AreStatementsIn, CompareExchange, End, Exchange, If, is_in_block, IsLitmus}
-pub use Rattle.lit_read.specs.Syntax.{IsStatementIn, Litmus, Load, Statement, Statements, Store, Then, Uint16, Uint32, Window, window_size}
-pub use Rattle.lit_read.specs.declared.limits.TheConstants.{REGISTERS}
-pub use Rattle.lit_read.specs.declared.syntax.Stmt.{Stmt}
+pub use Rattle.lit_syntax.proofs.ListLemmas.{all_weaker}
+pub use Rattle.lit_syntax.proofs.TreeViews.{if_views}
+pub use Rattle.lit_syntax.specs.Litmus.{statement_of, statements_of}
+pub use Rattle.lit_syntax.specs.Syntax.{Agent, agent_of, AreStatementsIn, CompareExchange, End, Exchange, If, is_in_block, IsLitmus}
+pub use Rattle.lit_syntax.specs.Syntax.{IsStatementIn, Litmus, Load, Statement, Statements, Store, Then, Uint16, Uint32, Window, window_size}
+pub use Rattle.lit_syntax.specs.declared.limits.TheConstants.{REGISTERS}
+pub use Rattle.lit_syntax.specs.declared.syntax.Stmt.{Stmt}
 pub use Rattle.lit_rel.proofs.OwnByteLemmas.{only_its}
 pub use Rattle.lit_rel.proofs.SourceLemmas.{take_from}
 pub use Rattle.lit_rel.specs.AgentOrder.{IsAgentOrdered}

@@ -2,8 +2,8 @@
 use Rattle.std.specs.Prelude.{ℕ, ◌<◌, Bool, IsTrue, List}
 use Rattle.std.proofs.Common.{refl}
 use Rattle.std.specs.Coded.{Coded, code_by, coded×, coded_ℕ, coded_bool, coded_list}
-use Rattle.lit_read.specs.Syntax.{Litmus}
-use Rattle.lit_read.specs.SyntaxCodes.{coded_litmus}
+use Rattle.lit_syntax.specs.Syntax.{Litmus}
+use Rattle.lit_syntax.specs.SyntaxCodes.{coded_litmus}
 use Rattle.lit_search.specs.Report.{Entry, Report, IsReport}
 
 -- the test, the number behind the last choice taken, and the report so far

@@ -1,6 +1,6 @@
 -- The first choice of a class of outcomes (this project's own).
 use Rattle.std.specs.Prelude.{ℕ, ◌<◌, Bool, IsTrue}
-use Rattle.lit_read.specs.Syntax.{Litmus}
+use Rattle.lit_syntax.specs.Syntax.{Litmus}
 use Rattle.lit_valid.specs.declared.class.Class.{Class}
 use Rattle.lit_valid.specs.Class.{GivesClass}
 

@@ -3,7 +3,7 @@
 use Rattle.std.specs.Prelude.{◌≡◌, ℕ, ◌+◌, if◌then◌else◌, None, Some, List, [], ◌∷◌, ◌++◌}
 use Rattle.std.specs.Prelude.{length, map, replicate, slice_get, slice_index}
 use Rattle.std.specs.List.{range_with_len}
-use Rattle.lit_read.specs.Syntax.{Statement, Statements, Load, Store, Exchange, CompareExchange, If, End, Then, Litmus}
+use Rattle.lit_syntax.specs.Syntax.{Statement, Statements, Load, Store, Exchange, CompareExchange, If, End, Then, Litmus}
 use Rattle.lit_paths.specs.Event.{event_at}
 use Rattle.lit_paths.specs.Execution.{Execution, execution_events, execution_outcome}
 use Rattle.lit_paths.specs.Run.{compares}

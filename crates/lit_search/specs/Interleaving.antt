@@ -3,9 +3,9 @@
 use Rattle.std.specs.Prelude.{ℕ, ◌+◌, ◌==◌, if◌then◌else◌, List, [], ◌∷◌, ◌++◌, length, map}
 use Rattle.std.specs.Prelude.{take, drop, replicate, slice_index, slice_index_or, slice_set}
 use Rattle.std.specs.List.{range_with_len}
-use Rattle.lit_read.specs.declared.limits.TheConstants.{REGISTERS}
-use Rattle.lit_read.specs.Syntax.{Window, window_size, Statement, Statements, Load, Store}
-use Rattle.lit_read.specs.Syntax.{Exchange, CompareExchange, If, End, Then, Agent, Litmus}
+use Rattle.lit_syntax.specs.declared.limits.TheConstants.{REGISTERS}
+use Rattle.lit_syntax.specs.Syntax.{Window, window_size, Statement, Statements, Load, Store}
+use Rattle.lit_syntax.specs.Syntax.{Exchange, CompareExchange, If, End, Then, Agent, Litmus}
 use Rattle.lit_paths.specs.Outcome.{outcome_of}
 use Rattle.lit_paths.specs.Path.{first_byte, payload_of}
 use Rattle.lit_paths.specs.Run.{compares}

@@ -11,7 +11,7 @@ ghost use Rattle.lit_search.specs.Interleaving.{beginning, interleaved};
 use crate::fault::SearchFault;
 use crate::interleaving::runner::Runner;
 use lit_paths::written_names;
-use lit_read::Test;
+use lit_syntax::Test;
 use std::alloc::{AllocError, Global};
 
 /// Each agent of a test before its first statement.

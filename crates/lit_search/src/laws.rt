@@ -1,7 +1,7 @@
 //! Laws of reports, of valid executions and of schedules. The functions do nothing: their contracts are theorems.
 
 ghost use Rattle.std.specs.Prelude.{◌≡◌, ℕ, ◌<◌, ◌≤◌, All, Bool, List, length};
-ghost use Rattle.lit_read.specs.Syntax.{IsLitmus, Litmus};
+ghost use Rattle.lit_syntax.specs.Syntax.{IsLitmus, Litmus};
 ghost use Rattle.lit_paths.specs.Choice.{choices_of};
 ghost use Rattle.lit_paths.specs.Execution.{Execution, IsCandidateExecution, execution_events};
 ghost use Rattle.lit_order.specs.MemoryOrder.{IsMemoryOrder};

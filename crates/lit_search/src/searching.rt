@@ -1,7 +1,7 @@
 //! The search of a range of choices, combination by combination and box by box.
 
 ghost use Rattle.std.specs.Prelude.{◌+◌, ◌<◌, ◌≤◌, IsTrue, length, IfOk, MatchOption};
-ghost use Rattle.lit_read.specs.Syntax.{IsLitmus};
+ghost use Rattle.lit_syntax.specs.Syntax.{IsLitmus};
 ghost use Rattle.lit_paths.specs.Choice.{choices_of};
 ghost use Rattle.lit_paths.specs.Plan.{choices_before};
 ghost use Rattle.lit_search.specs.FirstOfClass.{HasNoneOf, IsFirstOf};

@@ -9,7 +9,7 @@ use mathlib.Core.Path.{fun_ext}
 use Rattle.lit_search.specs.Report.{in_range, in_either}
 use Rattle.lit_search.proofs.NumberSets.{before_end, same_test, within}
 use Rattle.lit_share.specs.Pieces.{pieces_of, piece_start, piece_end, in_piece, in_pieces}
-use Rattle.lit_read.proofs.SpellLemmas.{or_right_false}
+use Rattle.std.proofs.Math.Bool.{or-false}
 
 -- ---- pieces
 -- the piece of a number
@@ -34,7 +34,7 @@ start_behind cut i n le = mul-le-mul_right cut le
 -- ---- several pieces
 pub pieces_more : (total cut : ℕ) (drawn : List ℕ) (i : ℕ) → in_either (in_pieces total cut drawn) (in_range (piece_start cut i) (piece_end total cut i)) ≡ in_pieces total cut (drawn ++ i ∷ [])
 pieces_more total cut drawn i =
-    fun_ext (λ m. sym (list_any-append (λ k. in_piece total cut k m) drawn (i ∷ []) ∙ ap (λ b. list_any (λ k. in_piece total cut k m) drawn || b) (or_right_false (in_piece total cut i m))))
+    fun_ext (λ m. sym (list_any-append (λ k. in_piece total cut k m) drawn (i ∷ []) ∙ ap (λ b. list_any (λ k. in_piece total cut k m) drawn || b) (or-false (in_piece total cut i m))))
 
 pub pieces_joined : (total cut : ℕ) (xs ys : List ℕ) → in_either (in_pieces total cut xs) (in_pieces total cut ys) ≡ in_pieces total cut (xs ++ ys)
 pieces_joined total cut xs ys = fun_ext (λ m. sym (list_any-append (λ k. in_piece total cut k m) xs ys))

@@ -2,7 +2,7 @@
 use Rattle.std.proofs.Common.{◌≡◌, ℕ, ◌<◌, List, [], ◌∷◌, length, Result, refl, arith}
 use Rattle.std.specs.Prelude.{All, Any}
 use Rattle.lit_desk.specs.Desk.{DeskName, PlaceLists}
-use Rattle.lit_read.specs.Syntax.{Litmus}
+use Rattle.lit_syntax.specs.Syntax.{Litmus}
 use Rattle.lit_search.specs.Report.{Report}
 use Rattle.lit_share.specs.declared.fault.ShareFault.{ShareFault}
 use Rattle.lit_share.specs.declared.worker.Worker.{Worker}

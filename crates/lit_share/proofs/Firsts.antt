@@ -6,7 +6,7 @@ use Rattle.std.proofs.lemmas.Bool.{cases_lt}
 use Rattle.std.proofs.lemmas.List.Elements.{All-contains, All-weaker, Contains-append_cases, Contains-append_left, Contains-append_right}
 use Rattle.std.proofs.lemmas.Option.{slice_get_within}
 use Rattle.lit_desk.specs.Desk.{DeskName, PlaceLists, IsDone, IsLeastOf, draws_of, told_by, seen_by, all_draws, all_told, all_seen}
-use Rattle.lit_read.specs.Syntax.{Litmus}
+use Rattle.lit_syntax.specs.Syntax.{Litmus}
 use Rattle.lit_paths.specs.Choice.{choices_of}
 use Rattle.lit_paths.specs.Execution.{execution_choice}
 use Rattle.lit_valid.specs.declared.class.Class.{Class}

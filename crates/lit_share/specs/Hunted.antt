@@ -3,7 +3,7 @@ use Rattle.std.specs.Prelude.{◌≡◌, ℕ, ◌<◌, ◌++◌, ◌⊎◌, All,
 use Rattle.lit_desk.specs.declared.class.Class2.{Class2}
 use Rattle.lit_desk.specs.declared.class.Class2.TheVariants as of_desk
 use Rattle.lit_desk.specs.Desk.{PlaceLists, told_by, seen_by}
-use Rattle.lit_read.specs.Syntax.{Litmus}
+use Rattle.lit_syntax.specs.Syntax.{Litmus}
 use Rattle.lit_paths.specs.Choice.{choices_of}
 use Rattle.lit_valid.specs.declared.class.Class.{Class}
 use Rattle.lit_valid.specs.declared.class.Class.TheVariants.{Met, Unmet}

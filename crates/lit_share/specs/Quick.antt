@@ -1,6 +1,6 @@
 -- The quick answer on a test (this project's own): of each class of outcomes the least choice, with its least memory-order.
 use Rattle.std.specs.Prelude.{length, Option, Some, None}
-use Rattle.lit_read.specs.Syntax.{Litmus}
+use Rattle.lit_syntax.specs.Syntax.{Litmus}
 use Rattle.lit_paths.specs.Choice.{choices_of}
 use Rattle.lit_valid.specs.declared.class.Class.{Class}
 use Rattle.lit_search.specs.declared.found.Example.{Example}

@@ -2,7 +2,7 @@
 use Rattle.lit_solve.proofs.Words.{◌<◌, AreSourcesIn, Bool, Box, Cond, Condition, condition_of, Decided, false, get_or, Global, holds}
 use Rattle.lit_solve.proofs.Words.{holds-All, holds-Any, IsUndecidedAt, length, List, list_all, list_all_at, list_any, list_any_at}
 use Rattle.lit_solve.proofs.Words.{member_holds, names_of, outcome_by, subst, true, Vec, zip, ℕ, ◌∙◌, ◌≡◌}
-use Rattle.lit_read.specs.declared.syntax.Cond as code
+use Rattle.lit_syntax.specs.declared.syntax.Cond as code
 use Rattle.lit_solve.specs.declared.condition_values.Decided.TheVariants.{Known, Undecided}
 
 -- the registers of the outcome by these sources, with their values

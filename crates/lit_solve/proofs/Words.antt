@@ -15,11 +15,11 @@ pub use Rattle.lit_paths.specs.declared.byte_reads.ByteRead.{ByteRead}
 pub use Rattle.lit_paths.specs.declared.event.Event.{Event}
 pub use Rattle.lit_paths.specs.declared.event.Order3.TheVariants.{SeqCst}
 pub use Rattle.lit_paths.specs.declared.limits.TheConstants.{BYTE_READ_LIMIT, CHOICE_LIMIT, EVENT_LIMIT}
-pub use Rattle.lit_read.specs.Litmus.{condition_of}
-pub use Rattle.lit_read.specs.Syntax.{Agent, agent_of, CompareExchange, Condition, End, Exchange, If, Is, IsLitmus, Litmus, Load}
-pub use Rattle.lit_read.specs.Syntax.{Statement, statement_writes, Statements, Store, Then, writes}
-pub use Rattle.lit_read.specs.declared.limits.TheConstants.{REGISTERS}
-pub use Rattle.lit_read.specs.declared.syntax.Cond.{Cond}
+pub use Rattle.lit_syntax.specs.Litmus.{condition_of}
+pub use Rattle.lit_syntax.specs.Syntax.{Agent, agent_of, CompareExchange, Condition, End, Exchange, If, Is, IsLitmus, Litmus, Load}
+pub use Rattle.lit_syntax.specs.Syntax.{Statement, statement_writes, Statements, Store, Then, writes}
+pub use Rattle.lit_syntax.specs.declared.limits.TheConstants.{REGISTERS}
+pub use Rattle.lit_syntax.specs.declared.syntax.Cond.{Cond}
 pub use Rattle.lit_rel.specs.Between.{Forbids}
 pub use Rattle.lit_rel.specs.Broken.{HasFalseGuardOn, IsBroken, number_on}
 pub use Rattle.lit_rel.specs.Coherent.{HasCoherentReads, IsCoherentRead}

@@ -1,7 +1,7 @@
 -- Boxes: the subproblems of a finite-domain solver (this project's own). A box is a combination of paths with a set of candidates,
 -- the domain, for each byte read. The byte reads are the variables.
 use Rattle.std.specs.Prelude.{◌≡◌, ℕ, ◌<◌, List, length, Some, slice_get, slice_index_or}
-use Rattle.lit_read.specs.Syntax.{IsLitmus, Litmus}
+use Rattle.lit_syntax.specs.Syntax.{IsLitmus, Litmus}
 use Rattle.lit_paths.specs.declared.event.Event.{Event}
 use Rattle.lit_paths.specs.ByteReads.{byte_reads, IsCandidate}
 use Rattle.lit_paths.specs.Choice.{combinations_of}

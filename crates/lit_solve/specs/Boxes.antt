@@ -6,8 +6,8 @@ use Rattle.std.specs.Cmp.Lexicographic.{slice_cmp}
 use Rattle.std.specs.Coded.{Coded, code_by, coded×, coded_ℕ, coded_list, coded_option}
 use Rattle.std.specs.Ordering.{nat_cmp}
 use Rattle.std.specs.declared.cmp.Ordering.TheVariants.{Less}
-use Rattle.lit_read.specs.Syntax.{Litmus}
-use Rattle.lit_read.specs.SyntaxCodes.{coded_litmus}
+use Rattle.lit_syntax.specs.Syntax.{Litmus}
+use Rattle.lit_syntax.specs.SyntaxCodes.{coded_litmus}
 use Rattle.lit_paths.specs.declared.event.Event.{Event}
 use Rattle.lit_paths.specs.ByteReads.{byte_reads, byte_read_at, IsCandidate}
 use Rattle.lit_paths.specs.Choice.{AreSources}

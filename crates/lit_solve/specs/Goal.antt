@@ -1,6 +1,6 @@
 -- The goal of a search: which valid executions meet it (this project's own).
 use Rattle.std.specs.Prelude.{IsTrue, ⊤}
-use Rattle.lit_read.specs.Syntax.{Litmus}
+use Rattle.lit_syntax.specs.Syntax.{Litmus}
 use Rattle.lit_paths.specs.Execution.{Execution, execution_events, execution_outcome}
 use Rattle.lit_rel.specs.DataRace.{HasDataRace}
 use Rattle.lit_valid.specs.Class.{is_of_class}

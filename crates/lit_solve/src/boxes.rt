@@ -9,7 +9,7 @@
 pub(crate) mod ends;
 
 ghost use Rattle.std.specs.Prelude.{◌≡◌, ◌↔◌, ℕ, ◌+◌, ◌<◌, ◌≤◌, IfSome, length};
-ghost use Rattle.lit_read.specs.Syntax.{IsLitmus};
+ghost use Rattle.lit_syntax.specs.Syntax.{IsLitmus};
 ghost use Rattle.lit_paths.specs.declared.limits.TheConstants.{EVENT_LIMIT as EVENTS};
 ghost use Rattle.lit_paths.specs.ByteReads.{byte_reads};
 ghost use Rattle.lit_paths.specs.Plan.{choices_before};

@@ -1,8 +1,8 @@
 //! The value of a condition in three-valued logic, by the domains of a box: true, false, or undecided.
 
 ghost use Rattle.std.specs.Prelude.{◌≡◌, ◌⊎◌, ◌↔◌, ℕ, ◌^◌, ◌<◌, IfSome, IsTrue, length, true};
-ghost use Rattle.lit_read.specs.Litmus.{condition_of};
-ghost use Rattle.lit_read.specs.Syntax.{Is};
+ghost use Rattle.lit_syntax.specs.Litmus.{condition_of};
+ghost use Rattle.lit_syntax.specs.Syntax.{Is};
 ghost use Rattle.lit_paths.specs.ByteReads.{byte_reads};
 ghost use Rattle.lit_paths.specs.Event.{does_read, event_at as event_of};
 ghost use Rattle.lit_rel.specs.EventSet.{HasEvent};
@@ -16,8 +16,8 @@ use crate::filling::storing;
 use crate::goal::Prospect;
 use crate::problem::Problem;
 use lit_paths::event_at;
-use lit_read::{Cond, REGISTERS};
 use lit_rel::EventSet;
+use lit_syntax::{Cond, REGISTERS};
 use lit_valid::Class;
 use lit_valid::laws::laws_below;
 

@@ -34,8 +34,8 @@ pub struct Problem<'p> {
 impl<'p> Model for Problem<'p> {
     ghost use Rattle.std.specs.Prelude.{ℕ};
     ghost use Rattle.std.specs.Coded.{coded×, coded_ℕ};
-    ghost use Rattle.lit_read.specs.Syntax.{Litmus};
-    ghost use Rattle.lit_read.specs.SyntaxCodes.{coded_litmus};
+    ghost use Rattle.lit_syntax.specs.Syntax.{Litmus};
+    ghost use Rattle.lit_syntax.specs.SyntaxCodes.{coded_litmus};
     ghost use Rattle.lit_solve.specs.Internal.Frames.{IsProblem};
 
     ghost Value = { Litmus × ℕ };

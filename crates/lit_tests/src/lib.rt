@@ -1,4 +1,4 @@
-//! The tests of `lit_desk`, `lit_read` and `lit_paths`, a module for each, through their public calls.
+//! The tests of `lit_desk`, `lit_syntax`, `lit_read` and `lit_paths`, a module for each but `lit_syntax`, through their public calls.
 #![tactic(auto)]
 
 #[cfg(test)]

@@ -4,7 +4,8 @@
 //! each one would be tried with it.
 
 use lit_paths::{Combination, Plan, plan};
-use lit_read::{Test, read};
+use lit_read::read;
+use lit_syntax::Test;
 use std::alloc::AllocGlobal;
 use std::process::Abort;
 

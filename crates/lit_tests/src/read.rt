@@ -1,7 +1,8 @@
 //! `lit_read`: texts that are tests, and texts that are refused.
 
 use asserted::{body_of, both_of, has_body, has_head, is_comparison, test_of};
-use lit_read::{AGENT_LIMIT, BLOCK_LIMIT, ReadFault, ReadKind, TEXT_LIMIT, View, read};
+use lit_read::{ReadFault, ReadKind, read};
+use lit_syntax::{AGENT_LIMIT, BLOCK_LIMIT, TEXT_LIMIT, View};
 use lit_texts::STORE_BUFFERING;
 use std::alloc::{AllocGlobal, Global};
 use std::process::Abort;

@@ -4,7 +4,7 @@ use Rattle.std.proofs.lemmas.Bool.{cases_lt}
 use Rattle.std.specs.List.{flat_map}
 use Rattle.std.proofs.lemmas.List.{take_all}
 use Rattle.std.proofs.lemmas.Option.{slice_get_within}
-use Rattle.lit_read.specs.Syntax.{IsLitmus, Litmus}
+use Rattle.lit_syntax.specs.Syntax.{IsLitmus, Litmus}
 use Rattle.lit_paths.specs.Choice.{Choice, choices_of, choices_on, combinations_of}
 use Rattle.lit_paths.specs.Execution.{execution_choice}
 use Rattle.lit_paths.specs.Path.{Path}

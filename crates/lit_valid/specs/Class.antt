@@ -1,6 +1,6 @@
 -- The classes of outcomes, by the test's condition (this project's own).
 use Rattle.std.specs.Prelude.{ℕ, Bool, IsTrue, not, List}
-use Rattle.lit_read.specs.Syntax.{Litmus}
+use Rattle.lit_syntax.specs.Syntax.{Litmus}
 use Rattle.lit_paths.specs.Outcome.{meets}
 use Rattle.lit_valid.specs.declared.class.Class.{Class}
 use Rattle.lit_valid.specs.declared.class.Class.TheVariants.{Met, Unmet}

@@ -1,6 +1,6 @@
 -- Completions of a part: the valid executions whose sources begin with its sources (this project's own).
 use Rattle.std.specs.Prelude.{◌≡◌, ℕ, ◌<◌, List, ◌++◌, length, map}
-use Rattle.lit_read.specs.Syntax.{IsLitmus}
+use Rattle.lit_syntax.specs.Syntax.{IsLitmus}
 use Rattle.lit_paths.specs.Choice.{combinations_of}
 use Rattle.lit_paths.specs.Execution.{Execution}
 use Rattle.lit_paths.specs.Plan.{combination_at}

@@ -1,6 +1,6 @@
 -- What the valid executions of a choice give (this project's own): outcomes, least memory-orders, and data races.
 use Rattle.std.specs.Prelude.{◌≡◌, ℕ, List, Some, slice_get}
-use Rattle.lit_read.specs.Syntax.{Litmus}
+use Rattle.lit_syntax.specs.Syntax.{Litmus}
 use Rattle.lit_paths.specs.Choice.{choices_of}
 use Rattle.lit_paths.specs.Execution.{Execution, execution_events, execution_choice, execution_outcome}
 use Rattle.lit_rel.specs.DataRace.{HasDataRace}

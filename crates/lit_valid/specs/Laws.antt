@@ -1,6 +1,6 @@
 -- Laws of the crates below that the proofs of this one cite together.
 use Rattle.std.specs.Prelude.{◌≡◌, ℕ, ◌+◌, ◌<◌, ◌≤◌, List, length}
-use Rattle.lit_read.specs.Syntax.{AreStatementsIn, IsLitmus, Litmus, Statements}
+use Rattle.lit_syntax.specs.Syntax.{AreStatementsIn, IsLitmus, Litmus, Statements}
 use Rattle.lit_paths.specs.declared.event.Event.{Event}
 use Rattle.lit_paths.specs.Choice.{IsChoice, ListsChoices, ListsCombinations, combinations_of}
 use Rattle.lit_paths.specs.Execution.{Execution, IsCandidateExecution, execution_choice}

@@ -1,6 +1,6 @@
 -- Observed values: what registers have at the end of a combination's paths, by the sources of a part (this project's own).
 use Rattle.std.specs.Prelude.{ℕ, Option, Some, None, List, map, slice_index_or}
-use Rattle.lit_read.specs.Syntax.{Litmus}
+use Rattle.lit_syntax.specs.Syntax.{Litmus}
 use Rattle.lit_paths.specs.Outcome.{names_of}
 use Rattle.lit_paths.specs.Plan.{first_event, path_in}
 use Rattle.lit_rel.specs.Broken.{number_on}

@@ -1,7 +1,7 @@
 -- Valid executions (ECMA-262, 2024, 29.7).
 use Rattle.std.specs.Prelude.{◌≡◌, ℕ, ◌+◌, if◌then◌else◌, List, [], ◌∷◌, map}
 use Rattle.std.specs.List.{flat_map}
-use Rattle.lit_read.specs.Syntax.{Litmus}
+use Rattle.lit_syntax.specs.Syntax.{Litmus}
 use Rattle.lit_paths.specs.declared.event.Event.{Event}
 use Rattle.lit_paths.specs.Event.{does_read}
 use Rattle.lit_paths.specs.Execution.{Execution, execution_events, IsCandidateExecution}

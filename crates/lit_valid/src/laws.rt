@@ -1,7 +1,7 @@
 //! Laws of valid executions, and of the completions of a part. The functions do nothing: their contracts are theorems.
 
 ghost use Rattle.std.specs.Prelude.{◌≡◌, ◌↔◌, ℕ, List};
-ghost use Rattle.lit_read.specs.Syntax.{IsLitmus, Litmus};
+ghost use Rattle.lit_syntax.specs.Syntax.{IsLitmus, Litmus};
 ghost use Rattle.lit_paths.specs.Choice.{AreSources};
 ghost use Rattle.lit_paths.specs.Execution.{Execution, execution_events};
 ghost use Rattle.lit_rel.specs.Broken.{IsBroken};

@@ -5,7 +5,7 @@ use Rattle.std.specs.Prelude.{slice_get}
 use Rattle.std.proofs.lemmas.Bool.{cases_lt}
 use Rattle.std.proofs.lemmas.List.{append-nil, append_assoc}
 use Rattle.std.proofs.lemmas.Option.{same_Some, slice_get_within}
-use Rattle.lit_read.specs.Syntax.{Litmus}
+use Rattle.lit_syntax.specs.Syntax.{Litmus}
 use Rattle.lit_paths.proofs.Products.{slice_get_left, slice_get_right}
 use Rattle.lit_why.specs.declared.attempt.Attempt.{Attempt}
 use Rattle.lit_why.specs.Attempts.{AreBefore, AreRising, HasAttempt, HasSoMany}

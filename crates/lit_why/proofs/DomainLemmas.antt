@@ -1,7 +1,7 @@
 -- Domains by what their sources are.
 use Rattle.std.proofs.Common.{◌≡◌, ◌↔◌, ℕ, ◌<◌, List, Some, length}
 use Rattle.std.specs.Prelude.{slice_get, slice_index_or}
-use Rattle.lit_read.specs.Syntax.{IsLitmus, Litmus}
+use Rattle.lit_syntax.specs.Syntax.{IsLitmus, Litmus}
 use Rattle.lit_paths.specs.ByteReads.{byte_reads, IsCandidate}
 use Rattle.lit_paths.specs.Choice.{combinations_of}
 use Rattle.lit_paths.specs.declared.limits.TheConstants.{BYTE_READ_LIMIT}

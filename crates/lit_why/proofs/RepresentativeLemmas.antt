@@ -2,7 +2,7 @@
 use Rattle.std.proofs.Common.{◌≡◌, ◌↔◌, ℕ, ◌<◌, Bool, true, false, not, refl}
 use Rattle.std.specs.Prelude.{IsTrue}
 use Rattle.std.proofs.lemmas.Bool.{false≢true}
-use Rattle.lit_read.specs.Syntax.{Litmus}
+use Rattle.lit_syntax.specs.Syntax.{Litmus}
 use Rattle.lit_paths.specs.ByteReads.{IsCandidate}
 use Rattle.lit_paths.specs.Event.{event_at, payload_at}
 use Rattle.lit_rel.specs.declared.event_set.EventSet.{EventSet}

@@ -1,7 +1,7 @@
 -- What the domains of a box say of the guards of paths.
 use Rattle.std.proofs.Common.{◌≡◌, inr, ℕ, List, Some, ap, arith, length, map, subst, ◌∙◌}
 use Rattle.std.proofs.lemmas.Option.{slice_get_within}
-use Rattle.lit_read.specs.Syntax.{Litmus}
+use Rattle.lit_syntax.specs.Syntax.{Litmus}
 use Rattle.lit_paths.specs.declared.byte_reads.ByteRead.{ByteRead}
 use Rattle.lit_paths.specs.declared.event.Event.{Event}
 use Rattle.lit_paths.specs.ByteReads.{byte_reads, pair_of}

@@ -1,6 +1,6 @@
 -- The first choice with a data race (this project's own; data races are those of ECMA-262, 2024, 29.9).
 use Rattle.std.specs.Prelude.{ℕ, ◌<◌, List}
-use Rattle.lit_read.specs.Syntax.{Litmus}
+use Rattle.lit_syntax.specs.Syntax.{Litmus}
 use Rattle.lit_paths.specs.Plan.{HasSources}
 use Rattle.lit_valid.specs.Gives.{GivesRace, HasLeastOrder}
 

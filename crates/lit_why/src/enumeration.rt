@@ -1,7 +1,7 @@
 //! Enumeration of the attempts at a class: on each combination a depth-first search that branches on the byte stored for each byte read.
 
 ghost use Rattle.std.specs.Prelude.{◌↔◌, ℕ, ◌≤◌, ◌<◌, IfOk, IsTrue, OnOk, length, true};
-ghost use Rattle.lit_read.specs.Syntax.{IsLitmus};
+ghost use Rattle.lit_syntax.specs.Syntax.{IsLitmus};
 ghost use Rattle.lit_paths.specs.ByteReads.{byte_reads};
 ghost use Rattle.lit_paths.specs.Choice.{AreSources, combinations_of};
 ghost use Rattle.lit_solve.specs.Box.{HasEmptyDomain, IsBox, box_with, events_on};

@@ -4,7 +4,7 @@ ghost use Rattle.std.specs.Prelude.{ℕ, List};
 ghost use Rattle.lit_order.specs.Forcing.{HasForcedCycle};
 ghost use Rattle.lit_paths.specs.Choice.{AreSources};
 ghost use Rattle.lit_paths.specs.declared.event.Event.{Event as ExecutionEvent};
-ghost use Rattle.lit_read.specs.Syntax.{Litmus};
+ghost use Rattle.lit_syntax.specs.Syntax.{Litmus};
 ghost use Rattle.lit_rel.specs.Forbidden.{IsForbidden};
 ghost use Rattle.lit_rel.specs.HappensBefore.{HappensBefore};
 ghost use Rattle.lit_rel.specs.Part.{PartModel, part_events};

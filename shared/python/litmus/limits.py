@@ -12,7 +12,7 @@ def constants(crate):
     return {name: int(number) << int(shift or 0) for name, number, shift in found}
 
 
-LIMITS = constants("lit_read") | constants("lit_paths")
+LIMITS = constants("lit_syntax") | constants("lit_paths")
 TEXT, WORD, DIGITS = LIMITS["TEXT_LIMIT"], LIMITS["WORD_LIMIT"], LIMITS["DIGIT_LIMIT"]
 BLOCK, AGENTS, REGISTERS = LIMITS["BLOCK_LIMIT"], LIMITS["AGENT_LIMIT"], LIMITS["REGISTERS"]
 COMPARED, IFS, DEPTH = LIMITS["COMPARED_LIMIT"], LIMITS["IF_LIMIT"], LIMITS["DEPTH_LIMIT"]

@@ -1,13 +1,13 @@
 -- The effect of writing the answer for a test.
 use Rattle.std.specs.Prelude.{Bool, Option, IfSome, List, ℕ}
 use Rattle.std.specs.Io.KnownBytes.{Appends}
-use Rattle.lit_read.specs.Syntax.{Litmus}
+use Rattle.lit_syntax.specs.Syntax.{Litmus}
 use Rattle.lit_valid.specs.declared.class.Class.{Class}
 use Rattle.lit_search.specs.Report.{Report}
 use Rattle.jslit.specs.declared.fault.RunFault.{RunFault}
 use Rattle.jslit.specs.declared.fault.RunFault.TheVariants as faults
 use Rattle.jslit.specs.Answer.{IsAnswerOf}
-use Rattle.jslit.specs.Devices.{AppendsBeginning}
+use Rattle.lit_print.specs.Writing.{AppendsBeginning}
 use Rattle.jslit.specs.QuickAnswer.{IsFirst}
 use Rattle.jslit.specs.Internal.FirstEntry.{IsOnlyEntry, entry_of_option}
 

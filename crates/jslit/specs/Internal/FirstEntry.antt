@@ -1,6 +1,6 @@
 -- The report of the first choice of a class, which has one entry to write.
 use Rattle.std.specs.Prelude.{◌<◌, Option, Some, None, length}
-use Rattle.lit_read.specs.Syntax.{Litmus}
+use Rattle.lit_syntax.specs.Syntax.{Litmus}
 use Rattle.lit_paths.specs.Choice.{choices_of}
 use Rattle.lit_valid.specs.Gives.{Gives, HasLeastOrder}
 use Rattle.lit_search.specs.Report.{Entry, Report, entry_at}

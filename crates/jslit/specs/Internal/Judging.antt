@@ -1,6 +1,6 @@
 -- Whether outcomes meet the condition.
 use Rattle.std.specs.Prelude.{◌≡◌, ◌<◌, ℕ, Bool}
-use Rattle.lit_read.specs.Syntax.{Litmus}
+use Rattle.lit_syntax.specs.Syntax.{Litmus}
 use Rattle.lit_paths.specs.Outcome.{meets}
 use Rattle.lit_search.specs.Report.{Report, entry_at}
 

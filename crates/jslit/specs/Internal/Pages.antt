@@ -1,10 +1,10 @@
 -- Pages: parts of the list of entries, which workers print side by side.
 use Rattle.std.specs.Prelude.{◌≡◌, ◌-◌, true, List, ℕ, take, drop}
 use Rattle.std.specs.List.{flat_map}
-use Rattle.lit_read.specs.Syntax.{Litmus}
+use Rattle.lit_syntax.specs.Syntax.{Litmus}
 use Rattle.lit_search.specs.Report.{Report}
-use Rattle.jslit.specs.declared.buffer.pages.Page.{Page}
-use Rattle.jslit.specs.ReportText.{entry_text}
+use Rattle.jslit.specs.declared.report.pages.Page.{Page}
+use Rattle.lit_print.specs.EntryText.{entry_text}
 
 -- the text of the entries from one place up to another
 abbrev pub page_text : Litmus → Report → ℕ → ℕ → List ℕ

@@ -3,11 +3,11 @@ use Rattle.std.specs.Prelude.{◌≡◌, ◌≢◌, ◌⊎◌, ◌<◌, Option, 
 use Rattle.clap.specs.declared.error.kind.ErrorKind.{ErrorKind}
 use Rattle.clap.specs.declared.error.kind.ErrorKind.TheVariants as kinds
 use Rattle.std.specs.Io.KnownBytes.{Appends}
-use Rattle.jslit.specs.declared.counted.Counted.{Counted}
+use Rattle.lit_print.specs.declared.counted.Counted.{Counted}
 use Rattle.jslit.specs.declared.fault.RunFault.{RunFault}
 use Rattle.jslit.specs.Answer.{status_of}
-use Rattle.jslit.specs.Counted.{device_of, failures_of}
-use Rattle.jslit.specs.Devices.{AppendsBeginning}
+use Rattle.lit_print.specs.Counted.{device_of, failures_of}
+use Rattle.lit_print.specs.Writing.{AppendsBeginning}
 use Rattle.jslit.specs.RefusalText.{refusal_line}
 
 -- known bytes grew by the line of a refusal, and where a write failed, by a beginning of it

@@ -1,6 +1,6 @@
 -- The results of reading a schedule.
 use Rattle.std.specs.Prelude.{◌≢◌, ◌<◌, ℕ, Option, Some, None, List, [], ◌∷◌, length}
-use Rattle.lit_read.specs.Syntax.{Litmus, agent_of}
+use Rattle.lit_syntax.specs.Syntax.{Litmus, agent_of}
 use Rattle.jslit.specs.declared.fault.RunFault.{RunFault}
 use Rattle.jslit.specs.declared.fault.RunFault.TheVariants as faults
 use Rattle.jslit.specs.Schedule.{NamesNoAgents}

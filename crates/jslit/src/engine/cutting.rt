@@ -6,7 +6,7 @@ ghost use Rattle.lit_share.specs.declared.limits.TheConstants.{CUT_LIMIT};
 
 use crate::engine::Options;
 use lit_paths::{Combination, Plan};
-use lit_read::REGISTERS;
+use lit_syntax::REGISTERS;
 
 /// How many pieces two to four workers draw at the most.
 const PIECES_OF_FEW: u64 = 16;

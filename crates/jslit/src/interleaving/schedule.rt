@@ -2,12 +2,12 @@
 
 ghost use Rattle.std.specs.Prelude.{◌≡◌, ◌<◌, ◌≤◌, ◌==◌, ◌++◌, not, All, IsTrue, IfSome, IfOk, IfErr, IfNone, length, option_map};
 ghost use Rattle.std.specs.List.{list_all, prefix_len};
-ghost use Rattle.lit_read.specs.Syntax.{IsLitmus, agent_of};
+ghost use Rattle.lit_syntax.specs.Syntax.{IsLitmus, agent_of};
 ghost use Rattle.jslit.specs.Schedule.{NamesAgents};
 ghost use Rattle.jslit.specs.Internal.Scheduling.{IsOfSchedule, NamesNone, behind_comma};
 
 use crate::fault::RunFault;
-use lit_read::Test;
+use lit_syntax::Test;
 use std::alloc::Global;
 
 /// How many bytes stand before the first comma.

@@ -1,7 +1,7 @@
 -- The walks of the agents in a combination, by its number.
 use Rattle.std.specs.Prelude.{◌≡◌, ℕ, ◌+◌, ◌/◌, ◌%◌, List, [], ◌∷◌, length, map, drop}
 use Rattle.std.specs.List.{range_with_len}
-use Rattle.lit_read.specs.Syntax.{Litmus, Agent, Statements, agent_of}
+use Rattle.lit_syntax.specs.Syntax.{Litmus, Agent, Statements, agent_of}
 use Rattle.lit_paths.specs.declared.combination.paths.CombinationPaths.{CombinationPaths}
 use Rattle.lit_paths.specs.Path.{Step, walks_of}
 use Rattle.lit_paths.specs.PathModel.{PathModel, path_model}

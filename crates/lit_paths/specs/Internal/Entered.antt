@@ -1,6 +1,6 @@
 -- The invariant of an entered combination of a test's plan.
 use Rattle.std.specs.Prelude.{◌≡◌, ℕ, ◌+◌, ◌<◌, ◌≤◌, length, map}
-use Rattle.lit_read.specs.Syntax.{Litmus}
+use Rattle.lit_syntax.specs.Syntax.{Litmus}
 use Rattle.lit_paths.specs.declared.limits.TheConstants.{CHOICE_LIMIT}
 use Rattle.lit_paths.specs.declared.combination.Combination.TheInside.{Inside}
 use Rattle.lit_paths.specs.declared.combination.Formed.{Formed}

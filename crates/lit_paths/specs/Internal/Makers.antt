@@ -1,7 +1,7 @@
 -- The makers of a path's events, computed from its guards: one for each decision, in order.
 use Rattle.std.specs.Prelude.{ℕ, ◌+◌, Bool, true, false, not, if◌then◌else◌, List, [], ◌∷◌, ◌++◌}
-use Rattle.lit_read.specs.Syntax.{Statement, Statements, Load, Store, Exchange, CompareExchange, If, End, Then}
-use Rattle.lit_read.specs.StatementOrder.{count_with_parts, statement_count}
+use Rattle.lit_syntax.specs.Syntax.{Statement, Statements, Load, Store, Exchange, CompareExchange, If, End, Then}
+use Rattle.lit_syntax.specs.StatementOrder.{count_with_parts, statement_count}
 use Rattle.lit_paths.specs.declared.path.Tested.{Tested}
 
 -- whether the first guard asks that the value equals the number, and the guards after it

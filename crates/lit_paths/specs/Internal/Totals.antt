@@ -1,7 +1,7 @@
 -- How many choices the combinations of a test have.
 use Rattle.std.specs.Prelude.{ℕ, ◌+◌, List, map}
 use Rattle.std.specs.List.{range_with_len}
-use Rattle.lit_read.specs.Syntax.{Litmus}
+use Rattle.lit_syntax.specs.Syntax.{Litmus}
 use Rattle.lit_paths.specs.Plan.{choices_before}
 
 -- the running totals of choices, up to each of the first `count` combinations

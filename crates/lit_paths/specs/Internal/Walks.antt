@@ -1,8 +1,8 @@
 -- The number of walks, the length of the longest walk, and the limits at which counting stops.
 use Rattle.std.specs.Prelude.{ℕ, ◌+◌, ◌≤◌, ◌*◌, max, IsTrue, length, List, [], ◌∷◌, slice_index_or}
-use Rattle.lit_read.specs.declared.limits.TheConstants.{BLOCK_LIMIT}
-use Rattle.lit_read.specs.Syntax.{Window, is_in_block, IsStatementIn, AreStatementsIn, Litmus, IsLitmus, Agent}
-use Rattle.lit_read.specs.Syntax.{Statement, Statements, Load, Store, Exchange, CompareExchange, If, End, Then}
+use Rattle.lit_syntax.specs.declared.limits.TheConstants.{BLOCK_LIMIT}
+use Rattle.lit_syntax.specs.Syntax.{Window, is_in_block, IsStatementIn, AreStatementsIn, Litmus, IsLitmus, Agent}
+use Rattle.lit_syntax.specs.Syntax.{Statement, Statements, Load, Store, Exchange, CompareExchange, If, End, Then}
 use Rattle.lit_paths.specs.Path.{Step, walks_of, statement_walks}
 use Rattle.lit_paths.specs.declared.limits.TheConstants.{ACCESS_LIMIT, COMBINATION_LIMIT}
 

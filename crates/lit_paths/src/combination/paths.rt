@@ -2,7 +2,7 @@
 
 ghost use Rattle.std.specs.Prelude.{◌≡◌, ◌+◌, ◌<◌, ◌≤◌, ◌++◌, length};
 ghost use Rattle.arrayvec.specs.ArrayVec.{array_vec_len};
-ghost use Rattle.lit_read.specs.declared.limits.TheConstants.{BLOCK_LIMIT};
+ghost use Rattle.lit_syntax.specs.declared.limits.TheConstants.{BLOCK_LIMIT};
 ghost use Rattle.lit_paths.specs.declared.limits.TheConstants.{EVENT_LIMIT};
 ghost use Rattle.lit_paths.specs.Event.{init_events};
 ghost use Rattle.lit_paths.specs.Plan.{AreEventsIn};
@@ -13,7 +13,7 @@ use crate::event::{Event, Events, Kind, Order3};
 use crate::path::Path;
 use crate::planning::agent_paths::AgentPaths;
 use arrayvec::ArrayVec;
-use lit_read::AGENT_LIMIT;
+use lit_syntax::AGENT_LIMIT;
 
 /// The paths of a combination, agent by agent, and all its events.
 #[derive(Drop)]

@@ -1,13 +1,13 @@
 //! The event of an access.
 
 ghost use Rattle.std.specs.Prelude.{◌≡◌, not, Some};
-ghost use Rattle.lit_read.specs.Syntax.{window_size, is_data_view as is_view};
-ghost use Rattle.lit_read.specs.Litmus.{window_of};
+ghost use Rattle.lit_syntax.specs.Syntax.{window_size, is_data_view as is_view};
+ghost use Rattle.lit_syntax.specs.Litmus.{window_of};
 ghost use Rattle.lit_paths.specs.Path.{order_of, first_byte as first_of, payload_of};
 ghost use Rattle.lit_paths.specs.Internal.Walks.{IsAccess};
 
 use crate::event::{Event, Kind, Order3};
-use lit_read::View;
+use lit_syntax::View;
 
 /// How many bytes an access has.
 fn size(view: View) -> u8

@@ -1,13 +1,13 @@
 //! The walks through the statements of an agent: how many there are, and how many accesses one has at the most.
 
 ghost use Rattle.std.specs.Prelude.{◌≡◌, length, min};
-ghost use Rattle.lit_read.specs.Litmus.{statement_of, statements_of};
+ghost use Rattle.lit_syntax.specs.Litmus.{statement_of, statements_of};
 ghost use Rattle.lit_paths.specs.declared.limits.TheConstants.{ACCESS_LIMIT, COMBINATION_LIMIT};
 ghost use Rattle.lit_paths.specs.Path.{walks_of, statement_walks};
 ghost use Rattle.lit_paths.specs.Internal.Walks.{longest, statement_longest, many_walks, many_accesses};
 
 use crate::limits::{ACCESS_LIMIT, COMBINATION_LIMIT};
-use lit_read::Stmt;
+use lit_syntax::Stmt;
 
 /// How many walks lead through statements, capped at one more than there may be combinations: a count of all could wrap
 /// (decision 10).

@@ -1,8 +1,8 @@
 //! The statements that make the events of a path, by their numbers.
 
 ghost use Rattle.std.specs.Prelude.{◌≡◌, ◌+◌, ◌≤◌, ◌<◌, ◌++◌, ◌^◌, length};
-ghost use Rattle.lit_read.specs.Litmus.{statement_of, statements_of};
-ghost use Rattle.lit_read.specs.StatementOrder.{count_with_parts, statement_count};
+ghost use Rattle.lit_syntax.specs.Litmus.{statement_of, statements_of};
+ghost use Rattle.lit_syntax.specs.StatementOrder.{count_with_parts, statement_count};
 ghost use Rattle.lit_paths.specs.declared.limits.TheConstants.{ACCESS_LIMIT as ACCESSES};
 ghost use Rattle.lit_paths.specs.Internal.Makers.{asks_equal, guards_behind, holds_where, makers_of, statement_makers};
 ghost use Rattle.lit_paths.specs.Internal.Walks.{longest, statement_longest};
@@ -10,7 +10,7 @@ ghost use Rattle.lit_paths.specs.Internal.Walks.{longest, statement_longest};
 use crate::limits::ACCESS_LIMIT;
 use crate::path::Tested;
 use arrayvec::ArrayVec;
-use lit_read::{Stmt, count_with_parts, statement_count};
+use lit_syntax::{Stmt, count_with_parts, statement_count};
 
 /// The number of the statement that makes each event of a path, by the event's place: from 0, in the order in which the
 /// agent's statements are written. An `if` has one number; those of its then-part follow, and then those of its

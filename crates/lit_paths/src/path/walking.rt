@@ -1,8 +1,8 @@
 //! Walking through the statements of an agent, by the number of a walk.
 
 ghost use Rattle.std.specs.Prelude.{◌≡◌, ◌+◌, ◌<◌, ◌≤◌, length, IfOk};
-ghost use Rattle.lit_read.specs.declared.limits.TheConstants.{REGISTERS};
-ghost use Rattle.lit_read.specs.Litmus.{window_of, statement_of, statements_of};
+ghost use Rattle.lit_syntax.specs.declared.limits.TheConstants.{REGISTERS};
+ghost use Rattle.lit_syntax.specs.Litmus.{window_of, statement_of, statements_of};
 ghost use Rattle.lit_paths.specs.declared.limits.TheConstants.{ACCESS_LIMIT, COMBINATION_LIMIT};
 ghost use Rattle.lit_paths.specs.Path.{LoadMet, StoreMet, ExchangeMet, CompareExchangeMet, walks_of, statement_walks};
 ghost use Rattle.lit_paths.specs.Internal.PathSteps.{with_step, with_steps};
@@ -12,7 +12,7 @@ use crate::event::Kind;
 use crate::event::access::{Access, event_of};
 use crate::path::Path;
 use crate::path::counting::{statement_walk_count, walk_count};
-use lit_read::Stmt;
+use lit_syntax::Stmt;
 use std::alloc::AllocError;
 
 /// The place of the next access on a path.

@@ -1,8 +1,8 @@
 //! The paths of each agent, by their numbers.
 
 ghost use Rattle.std.specs.Prelude.{◌≡◌, ◌<◌, ◌≤◌, length, map, IfOk};
-ghost use Rattle.lit_read.specs.Litmus.{statements_of};
-ghost use Rattle.lit_read.specs.Syntax.{agent_of};
+ghost use Rattle.lit_syntax.specs.Litmus.{statements_of};
+ghost use Rattle.lit_syntax.specs.Syntax.{agent_of};
 ghost use Rattle.lit_paths.specs.declared.limits.TheConstants.{ACCESS_LIMIT, COMBINATION_LIMIT};
 ghost use Rattle.lit_paths.specs.Path.{walks_of};
 ghost use Rattle.lit_paths.specs.PathModel.{path_model};
@@ -12,7 +12,7 @@ ghost use Rattle.lit_paths.specs.Internal.Walks.{AreSaid, longest, IsInLimits, c
 use crate::path::Path;
 use crate::path::counting::walk_count;
 use crate::path::walking::walk;
-use lit_read::{Stmt, Test};
+use lit_syntax::{Stmt, Test};
 use std::alloc::{AllocError, Global};
 use std::marker::Model;
 
@@ -41,8 +41,8 @@ pub(crate) struct AgentPaths<'t> {
 }
 
 impl<'t> Model for AgentPaths<'t> {
-    ghost use Rattle.lit_read.specs.Syntax.{Litmus};
-    ghost use Rattle.lit_read.specs.SyntaxCodes.{coded_litmus};
+    ghost use Rattle.lit_syntax.specs.Syntax.{Litmus};
+    ghost use Rattle.lit_syntax.specs.SyntaxCodes.{coded_litmus};
     ghost use Rattle.lit_paths.specs.Internal.AllPaths.{AreAllPaths};
 
     ghost Value = { Litmus };

@@ -1,7 +1,7 @@
 //! Builds the plan of a test, or refuses the test. `planning` has the `Plan` and its calls.
 
 ghost use Rattle.std.specs.Prelude.{◌≡◌, ◌↔◌, ◌⊎◌, ◌<◌, ◌≤◌, length, min, IsTrue, IfOk, IfErr, OnOk, MatchOption};
-ghost use Rattle.lit_read.specs.Syntax.{IsLitmus};
+ghost use Rattle.lit_syntax.specs.Syntax.{IsLitmus};
 ghost use Rattle.lit_paths.specs.declared.limits.TheConstants.{ACCESS_LIMIT as ACCESSES, COMBINATION_LIMIT as COMBINATIONS};
 ghost use Rattle.lit_paths.specs.declared.limits.TheConstants.{CHOICE_LIMIT as CHOICES};
 ghost use Rattle.lit_paths.specs.declared.fault.PlanFault.TheVariants.{OutOfMemory, TooManyChoices};
@@ -18,7 +18,7 @@ use crate::path::counting::{longest_walk, walk_count};
 use crate::planning::Plan;
 use crate::planning::agent_paths::AgentPaths;
 use crate::registers::written_names;
-use lit_read::Test;
+use lit_syntax::Test;
 use std::alloc::Global;
 
 /// Whether some combination of paths has too many access events.

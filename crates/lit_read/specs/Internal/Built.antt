@@ -2,8 +2,8 @@
 use Rattle.std.specs.Prelude.{ℕ, zero, suc, ◌+◌, ◌≤◌, nat_le, if◌then◌else◌, List, [], ◌∷◌, Result, Ok, Err}
 use Rattle.lit_read.specs.declared.fault.ReadKind.{ReadKind}
 use Rattle.lit_read.specs.declared.fault.ReadKind.TheVariants.{Syntax, TooDeep}
-use Rattle.lit_read.specs.declared.limits.TheConstants.{DEPTH_LIMIT, COMPARED_LIMIT}
-use Rattle.lit_read.specs.Syntax.{Condition, Conditions, Any, All, Not, NoMore, Also, Agent}
+use Rattle.lit_syntax.specs.declared.limits.TheConstants.{DEPTH_LIMIT, COMPARED_LIMIT}
+use Rattle.lit_syntax.specs.Syntax.{Condition, Conditions, Any, All, Not, NoMore, Also, Agent}
 use Rattle.lit_read.specs.Spelling.{numbered}
 use Rattle.lit_read.specs.Internal.Marks.{Mark, Bang, Opens, Closes, Joins, Parts, Compares}
 

@@ -3,11 +3,11 @@ use Rattle.std.specs.Prelude.{ℕ, ◌==◌, ◌&&◌, ◌||◌, nat_lt, if◌th
 use Rattle.std.specs.Option.{option_map}
 use Rattle.std.specs.List.{prefix_len}
 use Rattle.std.specs.Char.{is_ascii_digit}
-use Rattle.lit_read.specs.declared.tokens.symbols.Symbol.{Symbol}
-use Rattle.lit_read.specs.declared.tokens.symbols.Symbol.TheVariants.{Same, Differs, And, Or, Gives, Not, OpenBracket, CloseBracket}
-use Rattle.lit_read.specs.declared.tokens.symbols.Symbol.TheVariants.{OpenParen, CloseParen, OpenBrace, CloseBrace, Comma, Dot}
-use Rattle.lit_read.specs.declared.limits.TheConstants.{WORD_LIMIT, DIGIT_LIMIT}
-use Rattle.lit_read.specs.Tokens.{Token, Word, Number, Sign, is_blank, begins_word, is_in_word, digits_value, has_plain_lead}
+use Rattle.lit_syntax.specs.declared.symbol.Symbol.{Symbol}
+use Rattle.lit_syntax.specs.declared.symbol.Symbol.TheVariants.{Same, Differs, And, Or, Gives, Not, OpenBracket, CloseBracket}
+use Rattle.lit_syntax.specs.declared.symbol.Symbol.TheVariants.{OpenParen, CloseParen, OpenBrace, CloseBrace, Comma, Dot}
+use Rattle.lit_syntax.specs.declared.limits.TheConstants.{WORD_LIMIT, DIGIT_LIMIT}
+use Rattle.lit_syntax.specs.Tokens.{Token, Word, Number, Sign, is_blank, begins_word, is_in_word, digits_value, has_plain_lead}
 
 -- a symbol of two bytes
 unfoldable pub pair_of : ℕ → ℕ → Option Symbol

@@ -3,14 +3,14 @@ use Rattle.std.specs.Prelude.{ℕ, ◌-◌, ◌==◌, ◌&&◌, nat_lt, nat_le, 
 use Rattle.std.specs.Prelude.{List, [], ◌∷◌, Option, Some, None, codes}
 use Rattle.std.specs.Option.{option_map}
 use Rattle.std.specs.Str.{bytes_eq}
-use Rattle.lit_read.specs.declared.tokens.symbols.Symbol.{Symbol}
-use Rattle.lit_read.specs.declared.tokens.symbols.Symbol.TheVariants.{Same, Differs, And, Or, Gives, Not, OpenBracket, CloseBracket}
-use Rattle.lit_read.specs.declared.tokens.symbols.Symbol.TheVariants.{OpenParen, CloseParen, OpenBrace, CloseBrace, Comma, Dot}
-use Rattle.lit_read.specs.declared.limits.TheConstants.{REGISTERS}
-use Rattle.lit_read.specs.Syntax.{Window, Uint8, Uint16, Uint32, DataView8, DataView16, DataView32, Load, Store, Exchange, CompareExchange}
-use Rattle.lit_read.specs.Tokens.{Token, Word, Number, Sign}
-use Rattle.lit_read.specs.Written.{Comparison}
-use Rattle.lit_read.specs.Forms.{Form, Blank, TestLine, BytesLine, AgentLine, StatementLine, IfLine, ElseLine, EndLine}
+use Rattle.lit_syntax.specs.declared.symbol.Symbol.{Symbol}
+use Rattle.lit_syntax.specs.declared.symbol.Symbol.TheVariants.{Same, Differs, And, Or, Gives, Not, OpenBracket, CloseBracket}
+use Rattle.lit_syntax.specs.declared.symbol.Symbol.TheVariants.{OpenParen, CloseParen, OpenBrace, CloseBrace, Comma, Dot}
+use Rattle.lit_syntax.specs.declared.limits.TheConstants.{REGISTERS}
+use Rattle.lit_syntax.specs.Syntax.{Window, Uint8, Uint16, Uint32, DataView8, DataView16, DataView32, Load, Store, Exchange, CompareExchange}
+use Rattle.lit_syntax.specs.Tokens.{Token, Word, Number, Sign}
+use Rattle.lit_syntax.specs.Written.{Comparison}
+use Rattle.lit_syntax.specs.Forms.{Form, Blank, TestLine, BytesLine, AgentLine, StatementLine, IfLine, ElseLine, EndLine}
 use Rattle.lit_read.specs.Internal.FirstToken.{or_else}
 
 infixl 10 ◌>>=◌

@@ -3,7 +3,7 @@ use Rattle.std.specs.Prelude.{◌≡◌, ℕ, true, false, List, Result, Err, �
 use Rattle.std.specs.List.{list_all}
 use Rattle.lit_read.specs.declared.fault.ReadKind.{ReadKind}
 use Rattle.lit_read.specs.declared.fault.ReadKind.TheVariants.{NotAscii, Syntax, OutOfMemory}
-use Rattle.lit_read.specs.Forms.{Form, HasForm}
+use Rattle.lit_syntax.specs.Forms.{Form, HasForm}
 use Rattle.lit_read.specs.Faults.{is_allowed}
 use Rattle.lit_read.specs.Internal.State.{State, step}
 

@@ -2,12 +2,12 @@
 use Rattle.std.specs.Prelude.{◌≡◌, ℕ, zero, suc, ◌<◌, nat_le, Bool, true, false, List, [], ◌∷◌, ◌++◌, Option, Some, None}
 use Rattle.std.specs.Option.{option_map}
 use Rattle.std.specs.List.{AllByRecursion}
-use Rattle.lit_read.specs.declared.tokens.symbols.Symbol.TheVariants.{And, Or, Not, OpenParen, CloseParen}
-use Rattle.lit_read.specs.declared.limits.TheConstants.{REGISTERS, COMPARED_LIMIT}
-use Rattle.lit_read.specs.Tokens.{Token, Sign}
-use Rattle.lit_read.specs.Written.{Comparison, Operand, Compared, Negated, Grouped, Conjunction, Lone, Both, Written}
-use Rattle.lit_read.specs.Written.{Single, Either, comparison_tokens, written_tokens, written_depths}
-use Rattle.lit_read.specs.Forms.{Form, CheckLine, IsSpelling}
+use Rattle.lit_syntax.specs.declared.symbol.Symbol.TheVariants.{And, Or, Not, OpenParen, CloseParen}
+use Rattle.lit_syntax.specs.declared.limits.TheConstants.{REGISTERS, COMPARED_LIMIT}
+use Rattle.lit_syntax.specs.Tokens.{Token, Sign}
+use Rattle.lit_syntax.specs.Written.{Comparison, Operand, Compared, Negated, Grouped, Conjunction, Lone, Both, Written}
+use Rattle.lit_syntax.specs.Written.{Single, Either, comparison_tokens, written_tokens, written_depths}
+use Rattle.lit_syntax.specs.Forms.{Form, CheckLine, IsSpelling}
 use Rattle.lit_read.specs.Internal.FirstToken.{or_else}
 use Rattle.lit_read.specs.Internal.FormOfTokens.{after_sign, comparison_of}
 

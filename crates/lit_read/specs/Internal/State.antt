@@ -6,11 +6,11 @@ use Rattle.std.specs.Str.{bytes_eq}
 use Rattle.lit_read.specs.declared.fault.ReadKind.{ReadKind}
 use Rattle.lit_read.specs.declared.fault.ReadKind.TheVariants.{Misplaced, BlockSize, TooManyAgents, DuplicateAgent}
 use Rattle.lit_read.specs.declared.fault.ReadKind.TheVariants.{LiteralRange, OutOfBlock, UnknownName, TooDeep}
-use Rattle.lit_read.specs.declared.limits.TheConstants.{BLOCK_LIMIT, AGENT_LIMIT, COMPARED_LIMIT, REGISTERS, IF_LIMIT}
-use Rattle.lit_read.specs.Syntax.{Statement, Statements, If, End, Then, Agent, Litmus, IsLitmus, AreStatementsIn, nesting, writes}
-use Rattle.lit_read.specs.Tokens.{IsWord}
-use Rattle.lit_read.specs.Written.{Comparison, Written, written_depths, is_shallow}
-use Rattle.lit_read.specs.Forms.{Form, Blank, TestLine, BytesLine, AgentLine, StatementLine, IfLine, ElseLine, EndLine, CheckLine}
+use Rattle.lit_syntax.specs.declared.limits.TheConstants.{BLOCK_LIMIT, AGENT_LIMIT, COMPARED_LIMIT, REGISTERS, IF_LIMIT}
+use Rattle.lit_syntax.specs.Syntax.{Statement, Statements, If, End, Then, Agent, Litmus, IsLitmus, AreStatementsIn, nesting, writes}
+use Rattle.lit_syntax.specs.Tokens.{IsWord}
+use Rattle.lit_syntax.specs.Written.{Comparison, Written, written_depths, is_shallow}
+use Rattle.lit_syntax.specs.Forms.{Form, Blank, TestLine, BytesLine, AgentLine, StatementLine, IfLine, ElseLine, EndLine, CheckLine}
 use Rattle.lit_read.specs.Faults.{has_fitting_literals, stays_in_block, has_small_numbers}
 use Rattle.lit_read.specs.Spelling.{written_value}
 use Rattle.lit_read.specs.Internal.Marks.{Mark, Compares}

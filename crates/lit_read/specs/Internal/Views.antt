@@ -1,10 +1,9 @@
 -- What the values of the reader represent.
-use Rattle.std.specs.Prelude.{◌≡◌, ℕ, List, [], ◌∷◌, map, reverse, Option, Some, None, Result, Ok, Err, string_bytes, String}
-use Rattle.std.specs.Global.{Vec, Global}
+use Rattle.std.specs.Prelude.{◌≡◌, ℕ, List, [], ◌∷◌, map, reverse, Option, Some, None, Result, Ok, Err, string_bytes}
+use Rattle.std.specs.Global.{Vec}
 use Rattle.lit_read.specs.declared.fault.ReadKind.{ReadKind}
 use Rattle.lit_read.specs.declared.fault.ReadKind.TheVariants.{OutOfMemory}
-use Rattle.lit_read.specs.declared.syntax.Stmt.{Stmt}
-use Rattle.lit_read.specs.declared.syntax.Cond.{Cond}
+use Rattle.lit_syntax.specs.declared.syntax.Stmt.{Stmt}
 use Rattle.lit_read.specs.declared.tokens.Token as code
 use Rattle.lit_read.specs.declared.tokens.Token.TheVariants as token
 use Rattle.lit_read.specs.declared.forms.Access as accesses
@@ -22,11 +21,11 @@ use Rattle.lit_read.specs.declared.draft.OpenIf as ifs
 use Rattle.lit_read.specs.declared.draft.Open as opens
 use Rattle.lit_read.specs.declared.draft.Draft as drafts
 use Rattle.lit_read.specs.declared.draft.Draft.TheVariants as draft
-use Rattle.lit_read.specs.Syntax.{Agent, Statement, Statements, Load, Store, Exchange, CompareExchange, Conditions, NoMore, Also}
-use Rattle.lit_read.specs.Litmus.{window_of, statement_of, statements_of, condition_of}
-use Rattle.lit_read.specs.Tokens.{Token, Word, Number, Sign}
-use Rattle.lit_read.specs.Written.{Comparison, Written}
-use Rattle.lit_read.specs.Forms.{Form, Blank, TestLine, BytesLine, AgentLine, StatementLine, IfLine, ElseLine, EndLine, CheckLine}
+use Rattle.lit_syntax.specs.Syntax.{Statement, Statements, Load, Store, Exchange, CompareExchange}
+use Rattle.lit_syntax.specs.Litmus.{window_of, statement_of, statements_of, conditions_view, agents_view}
+use Rattle.lit_syntax.specs.Tokens.{Token, Word, Number, Sign}
+use Rattle.lit_syntax.specs.Written.{Comparison, Written}
+use Rattle.lit_syntax.specs.Forms.{Form, Blank, TestLine, BytesLine, AgentLine, StatementLine, IfLine, ElseLine, EndLine, CheckLine}
 use Rattle.lit_read.specs.Internal.Marks.{Mark, Bang, Opens, Closes, Joins, Parts, Compares, written_marks}
 use Rattle.lit_read.specs.Internal.Built.{Group, Groups}
 use Rattle.lit_read.specs.Internal.State.{State, Empty, Named, Sized, Open, Whole, OpenIf}
@@ -77,16 +76,6 @@ Shows (line.Check marks) form = (w : Written) × (form ≡ CheckLine w) × (mark
 abbrev pub result_statement : Result Stmt ReadKind → Result Statement ReadKind
 result_statement (Ok s) = Ok (statement_of s)
 result_statement (Err kind) = Err kind
-
-abbrev pub conditions_view : List Cond → Conditions
-conditions_view [] = NoMore
-conditions_view (c ∷ cs) = Also (condition_of c) (conditions_view cs)
-
-abbrev pub agent_view : List ℕ → List Stmt → Agent
-agent_view name body = record { name = name; body = statements_of body }
-
-abbrev pub agents_view : List (String Global × Vec Stmt) → List Agent
-agents_view entries = map (λ e. agent_view (string_bytes e.0) e.1.items) entries
 
 abbrev pub group_view : groups.Group → Group
 group_view f = record { depth = f.depth; nots = f.nots; any = conditions_view f.any.items; all = conditions_view f.all.items }

@@ -1,14 +1,14 @@
 //! Checks accesses and makes statements of them: literals that fit, and indices in the block.
 
 ghost use Rattle.std.specs.Prelude.{◌≡◌, Ok, Err, if◌then◌else◌};
-ghost use Rattle.lit_read.specs.Syntax.{fits_window, is_in_block};
-ghost use Rattle.lit_read.specs.Litmus.{window_of};
+ghost use Rattle.lit_syntax.specs.Syntax.{fits_window, is_in_block};
+ghost use Rattle.lit_syntax.specs.Litmus.{window_of};
 ghost use Rattle.lit_read.specs.Internal.State.{checked_statement};
 ghost use Rattle.lit_read.specs.Internal.Views.{access_view, result_statement};
 
 use crate::fault::ReadKind;
 use crate::forms::Access;
-use crate::syntax::{Stmt, View};
+use lit_syntax::{Stmt, View};
 
 /// Whether the number is one that the view can write.
 fn fits(view: View, value: u64) -> bool

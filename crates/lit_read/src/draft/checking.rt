@@ -2,16 +2,15 @@
 
 ghost use Rattle.std.specs.Prelude.{◌≡◌, IfSome, IfNone};
 ghost use Rattle.std.specs.List.{list_all};
-ghost use Rattle.lit_read.specs.Syntax.{End, statement_writes, writes};
-ghost use Rattle.lit_read.specs.Litmus.{statement_of, statements_of};
+ghost use Rattle.lit_syntax.specs.Syntax.{End};
+ghost use Rattle.lit_syntax.specs.Litmus.{statements_of, agents_view};
 ghost use Rattle.lit_read.specs.Internal.Marks.{is_small};
 ghost use Rattle.lit_read.specs.Internal.State.{body_named, is_known_mark};
-ghost use Rattle.lit_read.specs.Internal.Views.{mark_view, mark_views, agents_view};
+ghost use Rattle.lit_read.specs.Internal.Views.{mark_view};
 
 use crate::forms::marks::Mark;
-use crate::limits::COMPARED_LIMIT;
-use crate::syntax::Stmt;
 use indexmap::IndexMap;
+use lit_syntax::{COMPARED_LIMIT, Stmt, writes};
 
 /// Whether a number compared is one that a register can hold.
 fn is_small(mark: &Mark<'_>) -> bool
@@ -28,33 +27,6 @@ pub fn are_small(marks: &[Mark<'_>]) -> bool
     ensures { result ≡ list_all (λ m. is_small (mark_view m)) marks.now }
 {
     marks.iter().all(|mark| is_small(mark))
-}
-
-/// Whether a statement writes the register.
-#[cycle(writing)]
-fn statement_writes(stmt: &Stmt, reg: u8) -> bool
-    ensures { result ≡ statement_writes (statement_of stmt.now) reg }
-{
-    match stmt {
-        Stmt::Load { reg: written, .. }
-        | Stmt::Exchange { reg: written, .. }
-        | Stmt::CompareExchange { reg: written, .. } => *written == reg,
-        Stmt::Store { .. } => false,
-        Stmt::If { body, other, .. } => writes(body, reg) || writes(other, reg),
-    }
-}
-
-/// Whether some statement, also in a part of an `if`, writes a register, by its number.
-#[cycle(writing)]
-pub fn writes(body: &[Stmt], reg: u8) -> bool
-    ensures { result ≡ writes (statements_of body.now) reg }
-{
-    for stmt in body {
-        if statement_writes(stmt, reg) {
-            return true;
-        }
-    }
-    false
 }
 
 /// The statements of the agent with a name.

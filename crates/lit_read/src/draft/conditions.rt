@@ -1,19 +1,18 @@
 //! Parses the condition of a test from the marks of its `check` line, with a stack of open groups.
 
-ghost use Rattle.std.specs.Prelude.{◌≡◌, ◌+◌, ◌≤◌, nat_le, IfOk, length, string_bytes, true};
+ghost use Rattle.std.specs.Prelude.{◌≡◌, ◌+◌, ◌≤◌, nat_le, IfOk, length, true};
 ghost use Rattle.std.specs.List.{list_all};
-ghost use Rattle.lit_read.specs.Litmus.{condition_of};
+ghost use Rattle.lit_syntax.specs.Litmus.{condition_of, conditions_view, agents_view};
 ghost use Rattle.lit_read.specs.Spelling.{place_of};
 ghost use Rattle.lit_read.specs.Internal.Built.{negated, all_of, any_of, with_operand, after_or, asked};
 ghost use Rattle.lit_read.specs.Internal.Built.{build_step, build, begun, HasSmallNumber};
 ghost use Rattle.lit_read.specs.Internal.Marks.{is_small};
-ghost use Rattle.lit_read.specs.Internal.Views.{Returns, conditions_view, group_view, groups_view, mark_view, mark_views, agents_view};
+ghost use Rattle.lit_read.specs.Internal.Views.{Returns, group_view, groups_view, mark_view, mark_views};
 
 use crate::fault::ReadKind;
 use crate::forms::marks::Mark;
-use crate::limits::{AGENT_LIMIT, DEPTH_LIMIT};
-use crate::syntax::{Cond, Stmt};
 use indexmap::IndexMap;
+use lit_syntax::{AGENT_LIMIT, Cond, DEPTH_LIMIT, Stmt};
 use std::alloc::{AllocError, Global};
 
 /// The part of a parenthesized condition that is read so far: how many `!` and `(` are around it, the `!` before the next

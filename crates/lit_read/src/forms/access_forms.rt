@@ -1,7 +1,7 @@
 //! The forms of a line that is an access.
 
 ghost use Rattle.std.specs.Prelude.{◌≡◌, option_map};
-ghost use Rattle.lit_read.specs.Litmus.{window_of};
+ghost use Rattle.lit_syntax.specs.Litmus.{window_of};
 ghost use Rattle.lit_read.specs.Internal.FormOfTokens.{plain_load, plain_store, atomic_load, atomic_store, exchange, compare_exchange};
 ghost use Rattle.lit_read.specs.Internal.FormOfTokens.{byte_load, byte_store, wide_load, wide_store, array_form, view_form};
 ghost use Rattle.lit_read.specs.Internal.Views.{token_views, form_view};
@@ -10,9 +10,9 @@ use crate::forms::access_parts::{
     argument, atomic_call, closed, element, given_to, little_endian, stored, view_call,
 };
 use crate::forms::{Access, Form};
-use crate::syntax::View;
 use crate::tokens::Token;
 use crate::tokens::front::ended;
+use lit_syntax::View;
 
 /// `REG = VIEW[NUM]`
 #[tactic(auto, unfolding(crate::specs::Internal::FormOfTokens::plain_load))]

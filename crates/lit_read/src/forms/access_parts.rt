@@ -1,15 +1,14 @@
 //! Parsers for the parts that several accesses share (decision 9).
 
 ghost use Rattle.std.specs.Prelude.{◌≡◌, option_map};
-ghost use Rattle.lit_read.specs.Litmus.{window_of};
+ghost use Rattle.lit_syntax.specs.Litmus.{window_of};
 ghost use Rattle.lit_read.specs.Internal.FormOfTokens.{front, given_to, element, stored, atomic_call};
 ghost use Rattle.lit_read.specs.Internal.FormOfTokens.{view_call, argument, closed, little_endian};
 ghost use Rattle.lit_read.specs.Internal.Views.{token_views};
 
-use crate::syntax::View;
 use crate::tokens::Token;
 use crate::tokens::front::{after_sign, after_word, number_of, register_of, view_of};
-use crate::tokens::symbols::Symbol;
+use lit_syntax::{Symbol, View};
 
 /// `REG =`
 #[tactic(auto, unfolding(crate::specs::Internal::FormOfTokens::front))]

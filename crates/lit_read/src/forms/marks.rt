@@ -7,7 +7,7 @@ ghost use Rattle.lit_read.specs.Internal.Views.{token_views, mark_view, mark_vie
 
 use crate::tokens::Token;
 use crate::tokens::front::{after_sign, number_of, register_of, relation_of, word_of};
-use crate::tokens::symbols::Symbol;
+use lit_syntax::Symbol;
 use std::alloc::{AllocError, Global};
 
 /// A comparison as a line has it: the agent by its name, and a number of any size.

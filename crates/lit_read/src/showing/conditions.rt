@@ -1,15 +1,13 @@
 //! The canonical text of conditions.
 
 ghost use Rattle.std.specs.Prelude.{◌≡◌, ◌<◌, ◌≤◌, ◌++◌, [], nat_lt, if◌then◌else◌, OnOk, length, string_bytes};
-ghost use Rattle.lit_read.specs.Syntax.{IsConditionOn, AreConditionsOn};
-ghost use Rattle.lit_read.specs.Litmus.{condition_of};
-ghost use Rattle.lit_read.specs.Parentheses.{named, operand_of, conjunction_of, all_written, any_written, written_of};
+ghost use Rattle.lit_syntax.specs.Syntax.{IsConditionOn, AreConditionsOn};
+ghost use Rattle.lit_syntax.specs.Litmus.{condition_of, conditions_view};
+ghost use Rattle.lit_syntax.specs.Parentheses.{named, operand_of, conjunction_of, all_written, any_written, written_of};
 ghost use Rattle.lit_read.specs.CanonicalText.{comparison_text, operand_text, conjunction_text, written_text};
-ghost use Rattle.lit_read.specs.Internal.Views.{conditions_view};
 
 use crate::showing::statements::relation;
-use crate::syntax::Cond;
-use crate::test::Test;
+use lit_syntax::{Cond, Test};
 use std::alloc::AllocError;
 
 /// Writes a comparison, with the agent's name.

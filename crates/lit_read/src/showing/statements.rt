@@ -1,13 +1,13 @@
 //! The canonical lines of statements.
 
 ghost use Rattle.std.specs.Prelude.{◌≡◌, ◌++◌, ◌∷◌, [], OnOk, string_bytes};
-ghost use Rattle.lit_read.specs.Syntax.{Load, Store, Exchange, CompareExchange};
-ghost use Rattle.lit_read.specs.Litmus.{window_of, statement_of, statements_of};
-ghost use Rattle.lit_read.specs.Forms.{IfLine, window_word};
+ghost use Rattle.lit_syntax.specs.Syntax.{Load, Store, Exchange, CompareExchange};
+ghost use Rattle.lit_syntax.specs.Litmus.{window_of, statement_of, statements_of};
+ghost use Rattle.lit_syntax.specs.Forms.{IfLine, window_word};
 ghost use Rattle.lit_read.specs.Canonical.{statement_forms, statements_forms, else_forms};
 ghost use Rattle.lit_read.specs.CanonicalText.{relation_text, read_text, store_text, statement_text, forms_text};
 
-use crate::syntax::{Stmt, View};
+use lit_syntax::{Stmt, View};
 use std::alloc::AllocError;
 
 /// `==` or `!=`, between blanks.

@@ -1,15 +1,13 @@
 //! Parsers for the front of a list of tokens.
 
 ghost use Rattle.std.specs.Prelude.{◌≡◌, option_map};
-ghost use Rattle.lit_read.specs.Litmus.{window_of};
+ghost use Rattle.lit_syntax.specs.Litmus.{window_of};
 ghost use Rattle.lit_read.specs.Internal.FormOfTokens.{after_sign, word_of, number_of, after_word, register_number};
 ghost use Rattle.lit_read.specs.Internal.FormOfTokens.{register_of, window_named, view_of, relation_of, ended};
 ghost use Rattle.lit_read.specs.Internal.Views.{token_views};
 
-use crate::limits::REGISTERS;
-use crate::syntax::View;
 use crate::tokens::Token;
-use crate::tokens::symbols::Symbol;
+use lit_syntax::{REGISTERS, Symbol, View};
 
 /// The tokens after this symbol.
 #[tactic(auto, unfolding(crate::specs::Internal::FormOfTokens::after_sign))]

@@ -1,40 +1,9 @@
-//! The tokens that are neither words nor numbers.
+//! Cuts off the tokens that are neither words nor numbers.
 
 ghost use Rattle.std.specs.Prelude.{◌≡◌, option_map};
 ghost use Rattle.lit_read.specs.Internal.FirstToken.{pair_of, single_of, symbol_front};
 
-/// A symbol.
-#[derive(Clone, Copy, Debug, PartialEq, Eq)]
-pub enum Symbol {
-    /// `==`
-    Same,
-    /// `!=`
-    Differs,
-    /// `&&`
-    And,
-    /// `||`
-    Or,
-    /// `=`
-    Gives,
-    /// `!`
-    Not,
-    /// `[`
-    OpenBracket,
-    /// `]`
-    CloseBracket,
-    /// `(`
-    OpenParen,
-    /// `)`
-    CloseParen,
-    /// `{`
-    OpenBrace,
-    /// `}`
-    CloseBrace,
-    /// `,`
-    Comma,
-    /// `.`
-    Dot,
-}
+use lit_syntax::Symbol;
 
 #[tactic(auto, unfolding(crate::specs::Internal::FirstToken::pair_of))]
 fn pair(first: u8, second: u8) -> Option<Symbol>

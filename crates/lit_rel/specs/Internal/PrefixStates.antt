@@ -1,6 +1,6 @@
 -- The states of a part after each prefix of its sources.
 use Rattle.std.specs.Prelude.{◌≡◌, ◌↔◌, ℕ, IsTrue, List, length, take, Some, slice_get}
-use Rattle.lit_read.specs.Syntax.{Litmus}
+use Rattle.lit_syntax.specs.Syntax.{Litmus}
 use Rattle.lit_paths.specs.declared.event.Event.{Event}
 use Rattle.lit_paths.specs.Plan.{AreEventsIn, events_in}
 use Rattle.lit_rel.specs.declared.rows.Rows.{Rows}

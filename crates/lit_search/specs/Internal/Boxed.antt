@@ -1,6 +1,6 @@
 -- The choices of a range on one combination, by the boxes of the range.
 use Rattle.std.specs.Prelude.{◌≡◌, ℕ, ◌+◌, ◌<◌, ◌≤◌, IsTrue, List, length}
-use Rattle.lit_read.specs.Syntax.{Litmus}
+use Rattle.lit_syntax.specs.Syntax.{Litmus}
 use Rattle.lit_paths.specs.Choice.{combinations_of}
 use Rattle.lit_paths.specs.Plan.{HasSources, choices_before}
 use Rattle.lit_valid.specs.declared.class.Class.{Class}

@@ -1,6 +1,6 @@
 -- What a search adds to a table by the choices that it searches.
 use Rattle.std.specs.Prelude.{◌≡◌, ◌↔◌, ◌⊎◌, ℕ, ◌<◌, Bool, IsTrue, List, ◌++◌}
-use Rattle.lit_read.specs.Syntax.{Litmus}
+use Rattle.lit_syntax.specs.Syntax.{Litmus}
 use Rattle.lit_valid.specs.Entry.{HasOutcome}
 use Rattle.lit_valid.specs.Gives.{Gives, GivesRace, HasLeastOrder}
 use Rattle.lit_search.specs.Report.{Entry, HasEntry}

@@ -3,10 +3,10 @@ use Rattle.std.specs.Prelude.{◌≡◌, ℕ, Bool, true, false, if◌then◌els
 use Rattle.std.specs.Borrow.{Bor}
 use Rattle.std.specs.Coded.{Coded, code_by, coded×, coded_ℕ, coded_list}
 use Rattle.std.proofs.Common.{refl}
-use Rattle.lit_read.specs.declared.syntax.Stmt.{Stmt}
-use Rattle.lit_read.specs.Litmus.{statement_of, statements_of}
-use Rattle.lit_read.specs.Syntax.{AreStatementsIn, IsStatementIn, Statement, Statements, Load, Store, Exchange, CompareExchange, If, End, Then}
-use Rattle.lit_read.specs.SyntaxCodes.{coded_statements}
+use Rattle.lit_syntax.specs.declared.syntax.Stmt.{Stmt}
+use Rattle.lit_syntax.specs.Litmus.{statement_of, statements_of}
+use Rattle.lit_syntax.specs.Syntax.{AreStatementsIn, IsStatementIn, Statement, Statements, Load, Store, Exchange, CompareExchange, If, End, Then}
+use Rattle.lit_syntax.specs.SyntaxCodes.{coded_statements}
 use Rattle.lit_paths.specs.Run.{compares}
 use Rattle.lit_search.specs.Interleaving.{Progress, from_access, joined_statements}
 use Rattle.lit_search.specs.declared.interleaving.runner.Runner.TheInside.{Inside}

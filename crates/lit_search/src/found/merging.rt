@@ -2,7 +2,7 @@
 
 ghost use Rattle.std.specs.Prelude.{◌≡◌, ℕ, ◌+◌, ◌<◌, ◌++◌, ◌||◌, Bool, [], length, map, IfOk, IfNone, IfSome, OnSome};
 ghost use Rattle.std.specs.Option.{option_to_list, option_map};
-ghost use Rattle.lit_read.specs.Syntax.{Litmus};
+ghost use Rattle.lit_syntax.specs.Syntax.{Litmus};
 ghost use Rattle.lit_search.specs.Merge.{IsMerge};
 ghost use Rattle.lit_search.specs.Ranked.{joined_entries, ranked_entry};
 ghost use Rattle.lit_search.specs.Report.{IsReport, in_either};

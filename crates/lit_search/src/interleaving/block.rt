@@ -1,12 +1,12 @@
 //! Accesses to the bytes of a block, each at once.
 
 ghost use Rattle.std.specs.Prelude.{◌≡◌, IsTrue, length};
-ghost use Rattle.lit_read.specs.Syntax.{is_in_block, window_size};
-ghost use Rattle.lit_read.specs.Litmus.{window_of};
+ghost use Rattle.lit_syntax.specs.Syntax.{is_in_block, window_size};
+ghost use Rattle.lit_syntax.specs.Litmus.{window_of};
 ghost use Rattle.lit_paths.specs.Path.{first_byte};
 ghost use Rattle.lit_search.specs.Interleaving.{number_in, with_number};
 
-use lit_read::View;
+use lit_syntax::View;
 
 /// The first byte of an access, from the block's start, and how many bytes the access has.
 fn range_of(view: View, index: u8) -> (usize, usize)

@@ -1,12 +1,12 @@
 //! The next access of an agent, behind the `if`s that its registers decide.
 
 ghost use Rattle.std.specs.Prelude.{◌≡◌, ℕ, true, IfOk, MatchOption, length};
-ghost use Rattle.lit_read.specs.declared.limits.TheConstants.{REGISTERS};
-ghost use Rattle.lit_read.specs.Litmus.{statement_of, statements_of};
-ghost use Rattle.lit_read.specs.Syntax.{AreStatementsIn, IsStatementIn, End};
+ghost use Rattle.lit_syntax.specs.declared.limits.TheConstants.{REGISTERS};
+ghost use Rattle.lit_syntax.specs.Litmus.{statement_of, statements_of};
+ghost use Rattle.lit_syntax.specs.Syntax.{AreStatementsIn, IsStatementIn, End};
 ghost use Rattle.lit_search.specs.Internal.Runners.{ChoosesPart, IsNextAccessOrNone, is_access, joined_all};
 
-use lit_read::Stmt;
+use lit_syntax::Stmt;
 use std::alloc::AllocError;
 
 /// The part of an `if` that the registers choose, or `None` of an access.

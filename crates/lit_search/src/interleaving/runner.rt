@@ -1,15 +1,15 @@
 //! The state of one agent in an interleaving, which carries out its statements in turns.
 
 ghost use Rattle.std.specs.Prelude.{◌≡◌, ℕ, ◌<◌, IfOk, true, replicate, length, slice_index};
-ghost use Rattle.lit_read.specs.declared.limits.TheConstants.{REGISTERS as REGISTER_COUNT};
-ghost use Rattle.lit_read.specs.Litmus.{statement_of, statements_of};
-ghost use Rattle.lit_read.specs.Syntax.{AreStatementsIn, IsStatementIn, End};
+ghost use Rattle.lit_syntax.specs.declared.limits.TheConstants.{REGISTERS as REGISTER_COUNT};
+ghost use Rattle.lit_syntax.specs.Litmus.{statement_of, statements_of};
+ghost use Rattle.lit_syntax.specs.Syntax.{AreStatementsIn, IsStatementIn, End};
 ghost use Rattle.lit_search.specs.Interleaving.{Progress, accessed, after, after_statement, from_access};
 ghost use Rattle.lit_search.specs.Internal.Runners.{IsNextAccessOrNone, coded_progress, is_access, progress};
 
 use crate::interleaving::block::{number_at, put_number};
 use crate::interleaving::deciding::next_access;
-use lit_read::{REGISTERS, Stmt};
+use lit_syntax::{REGISTERS, Stmt};
 use std::alloc::{AllocError, Global};
 use std::marker::Model;
 

@@ -1,8 +1,9 @@
 //! The outcomes of schedules.
 
 use lit_paths::plan;
-use lit_read::{Test, read};
+use lit_read::read;
 use lit_search::{Found, interleave, search_range};
+use lit_syntax::Test;
 use lit_texts::{EXCHANGES, LOAD_BUFFERING, STORE_BUFFERING, VIEWED_READ};
 use std::alloc::Global;
 use std::process::Abort;

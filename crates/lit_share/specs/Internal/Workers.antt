@@ -1,7 +1,7 @@
 -- Workers before and after their calls: notions of private contracts.
 use Rattle.std.specs.Prelude.{◌≡◌, ℕ, length, All, Result, IfOk, OnOk}
 use Rattle.lit_desk.specs.Desk.{DeskName, PlaceLists, IsPlaceOf, IsDone, draws_of, told_by, new_place}
-use Rattle.lit_read.specs.Syntax.{Litmus}
+use Rattle.lit_syntax.specs.Syntax.{Litmus}
 use Rattle.lit_paths.specs.Choice.{choices_of}
 use Rattle.lit_valid.specs.declared.class.Class.{Class}
 use Rattle.lit_valid.specs.Class.{GivesClass}

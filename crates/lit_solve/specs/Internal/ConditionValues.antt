@@ -1,7 +1,7 @@
 -- The values of conditions in three-valued logic, by the domains of a box: true, false, or undecided because of a byte read.
 use Rattle.std.specs.Prelude.{◌≡◌, ℕ, ◌==◌, List, not, ⊤}
 use Rattle.std.specs.List.{zip}
-use Rattle.lit_read.specs.Syntax.{Condition, Litmus}
+use Rattle.lit_syntax.specs.Syntax.{Condition, Litmus}
 use Rattle.lit_paths.specs.ByteReads.{byte_read_at}
 use Rattle.lit_paths.specs.Event.{event_at, payload_at}
 use Rattle.lit_paths.specs.Execution.{Execution}

@@ -1,7 +1,7 @@
 -- The cut of a range of choices into boxes: the range's ends, and how many boxes lie before and after the middle one.
 use Rattle.std.specs.Prelude.{◌≡◌, ◌≢◌, ℕ, ◌+◌, ◌-◌, ◌<◌, ◌≤◌, IfNone, IfSome, List, MatchOption}
 use Rattle.std.specs.Prelude.{Option, Some, length, option_map, slice_index}
-use Rattle.lit_read.specs.Syntax.{Litmus}
+use Rattle.lit_syntax.specs.Syntax.{Litmus}
 use Rattle.lit_paths.specs.declared.event.Event.{Event}
 use Rattle.lit_paths.specs.Choice.{AreSources}
 use Rattle.lit_paths.specs.Plan.{HasSources, choices_before, events_in}

@@ -1,6 +1,6 @@
 -- Frames: the states of a backtracking search, boxes with the relations that follow from them.
 use Rattle.std.specs.Prelude.{◌≡◌, ◌↔◌, ℕ, ◌<◌, ◌≤◌, Bool, IsFalse, List, Option, [], Some, length, slice_get, slice_index_or}
-use Rattle.lit_read.specs.Syntax.{IsLitmus, Litmus}
+use Rattle.lit_syntax.specs.Syntax.{IsLitmus, Litmus}
 use Rattle.lit_paths.specs.declared.event.Event.{Event}
 use Rattle.lit_paths.specs.ByteReads.{byte_reads, IsCandidate}
 use Rattle.lit_paths.specs.Choice.{combinations_of}

@@ -3,7 +3,8 @@
 //! Each call that ensures much stands in a function of its own, which ensures nothing: what `read` and a test's calls
 //! ensure would else be known to each goal behind them, and a test would take minutes to prove.
 
-use lit_read::{Cond, Stmt, Test, View, read};
+use lit_read::read;
+use lit_syntax::{Cond, Stmt, Test, View};
 use std::alloc::AllocGlobal;
 use std::process::Abort;
 

@@ -1,7 +1,8 @@
 //! The canonical text, and that reading it gives the test again.
 
 use super::asserted::test_of;
-use lit_read::{Test, show};
+use lit_read::show;
+use lit_syntax::Test;
 use lit_texts::{
     AMONG_IDLE_EVENTS, BOTH_EXCHANGE_FOR_ONE, EQUAL_STORES, EXCHANGES, FAILED_EXCHANGE,
     INDEPENDENT_READS, LOAD_BUFFERING, MESSAGE_PASSING, MESSAGE_PASSING_PLAIN, OWN_STORE,

@@ -2,7 +2,8 @@
 
 use super::asserted::{Access, begins_with, body_of, both_of, denied, either_of, is_if, test_of};
 use super::{CHECKED, framed, refused, refused_fourth, repeated};
-use lit_read::{Cond, ReadKind, View, read};
+use lit_read::{ReadKind, read};
+use lit_syntax::{Cond, View};
 use std::alloc::Global;
 use std::process::Abort;
 use std::test::Fail;

@@ -2,7 +2,8 @@
 
 use super::asserted::{body_of, test_of};
 use crate::nested::NESTED;
-use lit_read::{Stmt, count_with_parts, statement_count, statement_lines};
+use lit_read::statement_lines;
+use lit_syntax::{Stmt, count_with_parts, statement_count};
 use std::alloc::AllocGlobal;
 use std::process::Abort;
 use std::test::Fail;

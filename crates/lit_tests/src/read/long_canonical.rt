@@ -1,7 +1,8 @@
 //! A canonical text of as many bytes as a text may have, and of one more.
 
 use super::asserted::body_of;
-use lit_read::{ReadFault, ReadKind, TEXT_LIMIT, read, show};
+use lit_read::{ReadFault, ReadKind, read, show};
+use lit_syntax::TEXT_LIMIT;
 use std::alloc::{AllocError, AllocGlobal, Global};
 use std::process::Abort;
 use std::test::Fail;

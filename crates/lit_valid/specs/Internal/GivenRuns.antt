@@ -1,6 +1,6 @@
 -- Runs on the paths of a combination whose reads are given the values that they take from the sources.
 use Rattle.std.specs.Prelude.{◌≡◌, ℕ, List, [], length, map, Some, slice_get, slice_index_or}
-use Rattle.lit_read.specs.Syntax.{Litmus, agent_of}
+use Rattle.lit_syntax.specs.Syntax.{Litmus, agent_of}
 use Rattle.lit_paths.specs.Path.{Path}
 use Rattle.lit_paths.specs.Plan.{combination_at, events_in, first_event}
 use Rattle.lit_paths.specs.Run.{Run, IsRun, run_path}

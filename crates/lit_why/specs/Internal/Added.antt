@@ -1,6 +1,6 @@
 -- How a list of attempts grows.
 use Rattle.std.specs.Prelude.{◌≡◌, ◌⊎◌, ℕ, ◌≤◌, List, ◌++◌, Some, length, slice_get}
-use Rattle.lit_read.specs.Syntax.{Litmus}
+use Rattle.lit_syntax.specs.Syntax.{Litmus}
 use Rattle.lit_why.specs.declared.attempt.Attempt.{Attempt}
 use Rattle.lit_why.specs.Attempts.{AreBefore, AreRising, HasAttempt, HasSoMany}
 

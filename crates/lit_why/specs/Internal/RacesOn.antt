@@ -1,6 +1,6 @@
 -- Data races of the choices on one combination.
 use Rattle.std.specs.Prelude.{ℕ, ◌+◌, ◌<◌, ◌≤◌, List}
-use Rattle.lit_read.specs.Syntax.{Litmus}
+use Rattle.lit_syntax.specs.Syntax.{Litmus}
 use Rattle.lit_paths.specs.Plan.{HasSources, choices_before}
 use Rattle.lit_valid.specs.Gives.{GivesRace, HasLeastOrder}
 

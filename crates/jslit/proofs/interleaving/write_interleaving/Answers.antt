@@ -1,8 +1,8 @@
 use Rattle.std.proofs.Common.{◌∙◌, ap}
 use Rattle.jslit.specs.ReportText.{interleaving_text, yes_or_no}
-use Rattle.jslit.specs.Internal.Writing.{HasPut, writing_of}
+use Rattle.lit_print.specs.Writing.{HasPut, writing_of}
 use Rattle.jslit.proofs.Lines.{interleaving_is}
-use Rattle.jslit.proofs.Putting.{HasPut-then, HasPut-is, finished, stopped}
+use Rattle.lit_print.proofs.Putting.{HasPut-then, HasPut-is, finished, stopped}
 use Rattle.jslit.proofs.interleaving.write_interleaving.Goals as goal
 
 pub returns-clause-written : goal.returns-clause-written

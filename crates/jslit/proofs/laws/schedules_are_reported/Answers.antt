@@ -1,5 +1,5 @@
 use Rattle.std.proofs.Common.{◌≡◌, ◌∙◌, ap, subst, sym}
-use Rattle.lit_read.specs.Syntax.{Litmus}
+use Rattle.lit_syntax.specs.Syntax.{Litmus}
 use Rattle.lit_search.specs.InTurn.{IsReported}
 use Rattle.lit_search.specs.Interleaving.{interleaved}
 use Rattle.jslit.specs.ReportText.{interleaving_text}

@@ -1,7 +1,7 @@
 use Rattle.std.proofs.Common.{⊎_elim, ap, sym, ◌∙◌}
 use Rattle.std.specs.List.{list_any}
-use Rattle.lit_read.specs.declared.syntax.Cond.{Cond}
-use Rattle.lit_read.specs.Litmus.{condition_of}
+use Rattle.lit_syntax.specs.declared.syntax.Cond.{Cond}
+use Rattle.lit_syntax.specs.Litmus.{condition_of}
 use Rattle.lit_paths.specs.Outcome.{asks}
 use Rattle.lit_paths.proofs.Conditions.{member_asks, asks-Any, asks-All}
 use Rattle.lit_paths.proofs.registers.+asks.Goals as goal

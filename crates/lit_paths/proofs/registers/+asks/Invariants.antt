@@ -1,6 +1,6 @@
 use Rattle.std.proofs.Common.{◌≡◌, drop}
 use Rattle.std.specs.List.{list_any}
-use Rattle.lit_read.specs.Litmus.{condition_of}
+use Rattle.lit_syntax.specs.Litmus.{condition_of}
 use Rattle.lit_paths.specs.Outcome.{asks}
 use Rattle.lit_paths.proofs.registers.+asks.Given as goal
 

@@ -1,7 +1,7 @@
 use Rattle.std.proofs.Common.{ap, sym, ◌∙◌}
 use Rattle.std.specs.List.{zip, list_any, list_all}
-use Rattle.lit_read.specs.declared.syntax.Cond.{Cond}
-use Rattle.lit_read.specs.Litmus.{condition_of}
+use Rattle.lit_syntax.specs.declared.syntax.Cond.{Cond}
+use Rattle.lit_syntax.specs.Litmus.{condition_of}
 use Rattle.lit_paths.specs.Outcome.{holds}
 use Rattle.lit_paths.proofs.Conditions.{member_holds, holds-Any, holds-All}
 use Rattle.lit_paths.proofs.registers.+holds.Goals as goal

@@ -1,6 +1,6 @@
 use Rattle.std.proofs.Common.{◌≡◌, drop}
 use Rattle.std.specs.List.{list_any, list_all, zip}
-use Rattle.lit_read.specs.Litmus.{condition_of}
+use Rattle.lit_syntax.specs.Litmus.{condition_of}
 use Rattle.lit_paths.specs.Outcome.{holds}
 use Rattle.lit_paths.proofs.registers.+holds.Given as goal
 

@@ -1,6 +1,6 @@
 use Rattle.std.proofs.Common.{arith, sym, ◌∙◌, ap, length, true, false, append-nil}
-use Rattle.lit_read.specs.Syntax.{writes}
-use Rattle.lit_read.specs.Litmus.{statements_of}
+use Rattle.lit_syntax.specs.Syntax.{writes}
+use Rattle.lit_syntax.specs.Litmus.{statements_of}
 use Rattle.lit_paths.proofs.OutcomeRegisterSteps.{names_step}
 use Rattle.lit_paths.proofs.registers.push_names.Goals as goal
 use Rattle.lit_paths.proofs.registers.push_names.Goals.{then-writes, else-writes}

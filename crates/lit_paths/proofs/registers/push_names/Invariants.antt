@@ -1,8 +1,8 @@
 use Rattle.std.proofs.Common.{◌≡◌, ◌+◌, ◌≤◌, ◌++◌, map, filter}
 use Rattle.std.specs.List.{range_with_len}
 use Rattle.arrayvec.specs.ArrayVec.{array_vec_len}
-use Rattle.lit_read.specs.Syntax.{writes}
-use Rattle.lit_read.specs.Litmus.{statements_of}
+use Rattle.lit_syntax.specs.Syntax.{writes}
+use Rattle.lit_syntax.specs.Litmus.{statements_of}
 use Rattle.lit_paths.proofs.registers.push_names.Given as goal
 
 abbrev pub invariant-loop-register : goal.invariant-loop-register

@@ -1,7 +1,7 @@
 use Rattle.std.proofs.Common.{◌≡◌, ℕ, ◌++◌, List, length, sym, ap, subst, ◌∙◌, arith, append-nil}
 use Rattle.std.specs.Prelude.{All}
 use Rattle.std.proofs.lemmas.List.{drop_all}
-use Rattle.lit_read.specs.Syntax.{Agent}
+use Rattle.lit_syntax.specs.Syntax.{Agent}
 use Rattle.lit_paths.specs.Outcome.{names_from, names_of}
 use Rattle.lit_paths.proofs.OutcomeRegisterSteps.{IsWithin, names_from-within}
 use Rattle.lit_paths.proofs.registers.written_names.Goals as goal

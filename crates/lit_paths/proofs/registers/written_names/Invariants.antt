@@ -1,6 +1,6 @@
 use Rattle.std.proofs.Common.{◌≡◌, ◌*◌, ◌≤◌, ◌++◌, drop}
 use Rattle.arrayvec.specs.ArrayVec.{array_vec_len}
-use Rattle.lit_read.specs.declared.limits.TheConstants.{REGISTERS}
+use Rattle.lit_syntax.specs.declared.limits.TheConstants.{REGISTERS}
 use Rattle.lit_paths.specs.Outcome.{names_from, names_of}
 use Rattle.lit_paths.proofs.registers.written_names.Given as goal
 

@@ -1,5 +1,5 @@
 use Rattle.std.proofs.Common.{ap, ◌∙◌}
-use Rattle.lit_read.specs.Internal.Views.{agents_view}
+use Rattle.lit_syntax.specs.Litmus.{agents_view}
 use Rattle.lit_read.proofs.DraftLemmas.{new_last}
 use Rattle.lit_read.proofs.draft.with_last.Goals as goal
 

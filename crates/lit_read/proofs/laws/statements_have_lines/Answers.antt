@@ -1,4 +1,5 @@
-use Rattle.lit_read.proofs.StatementForms.{lines_have_forms, lines_counted, statement_on_line, statements_counted}
+use Rattle.lit_syntax.proofs.CountLemmas.{statements_counted}
+use Rattle.lit_read.proofs.StatementForms.{lines_have_forms, lines_counted, statement_on_line}
 use Rattle.lit_read.proofs.laws.statements_have_lines.Goals as goal
 
 pub returns-clause-forms : goal.returns-clause-forms

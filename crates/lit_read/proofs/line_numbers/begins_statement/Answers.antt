@@ -1,6 +1,6 @@
 use Rattle.std.proofs.Common.{sym, subst, List}
 use Rattle.lit_read.specs.declared.tokens.Token as code
-use Rattle.lit_read.specs.Tokens.{CutsInto}
+use Rattle.lit_syntax.specs.Tokens.{CutsInto}
 use Rattle.lit_read.specs.Internal.Marks.{SpellsForm}
 use Rattle.lit_read.specs.Internal.Views.{token_views, Shows}
 use Rattle.lit_read.proofs.ReadLemmas.{no_form}

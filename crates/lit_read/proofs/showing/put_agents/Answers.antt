@@ -1,6 +1,6 @@
 use Rattle.std.proofs.Common.{◌≡◌, ◌++◌, ◌<◌, ◌≤◌, [], ◌∷◌, refl, length, string_bytes, arith}
-use Rattle.lit_read.specs.Syntax.{agent_of}
-use Rattle.lit_read.specs.Forms.{AgentLine}
+use Rattle.lit_syntax.specs.Syntax.{agent_of}
+use Rattle.lit_syntax.specs.Forms.{AgentLine}
 use Rattle.lit_read.specs.Canonical.{statements_forms}
 use Rattle.lit_read.specs.CanonicalText.{forms_text}
 use Rattle.lit_read.proofs.ShownForms.{agent_put, agents_put}

@@ -1,6 +1,6 @@
 use Rattle.std.proofs.Common.{◌≡◌, ◌++◌, List, [], ◌∷◌, ℕ, string_bytes, ap, ◌∙◌}
 use Rattle.std.specs.Global.{Vec}
-use Rattle.lit_read.specs.Forms.{TestLine, BytesLine}
+use Rattle.lit_syntax.specs.Forms.{TestLine, BytesLine}
 use Rattle.lit_read.specs.CanonicalText.{forms_text}
 use Rattle.lit_read.proofs.ShownForms.{test_put}
 use Rattle.lit_read.proofs.showing.show.Goals as goal

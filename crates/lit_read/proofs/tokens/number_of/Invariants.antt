@@ -1,5 +1,5 @@
 use Rattle.std.proofs.Common.{◌≡◌, ◌<◌, ◌^◌, take}
-use Rattle.lit_read.specs.Tokens.{digits_value}
+use Rattle.lit_syntax.specs.Tokens.{digits_value}
 use Rattle.lit_read.proofs.tokens.number_of.Given as goal
 
 abbrev pub invariant-loop-digit : goal.invariant-loop-digit

@@ -1,7 +1,7 @@
 use Rattle.std.proofs.Common.{ℕ, arith, subst, sym, ◌∙◌}
 use Rattle.std.proofs.lemmas.Bool.{false≢true}
 use Rattle.std.proofs.lemmas.Result.{on_ok_weaker}
-use Rattle.lit_read.specs.Syntax.{Litmus}
+use Rattle.lit_syntax.specs.Syntax.{Litmus}
 use Rattle.lit_solve.specs.Box.{box_with}
 use Rattle.lit_why.specs.Internal.Domains.{AreDomainsBy}
 use Rattle.lit_why.specs.Internal.Trials.{IsLeastTryOn, IsRepresentative, TriesIn}

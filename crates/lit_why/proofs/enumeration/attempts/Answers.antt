@@ -1,5 +1,5 @@
 use Rattle.std.proofs.Common.{◌≤◌, ℕ, [], arith, length, subst}
-use Rattle.lit_read.specs.Syntax.{Litmus}
+use Rattle.lit_syntax.specs.Syntax.{Litmus}
 use Rattle.lit_paths.specs.Choice.{combinations_of}
 use Rattle.lit_why.specs.Internal.Added.{Adds}
 use Rattle.lit_why.specs.Internal.Trials.{IsLeastTryOn}

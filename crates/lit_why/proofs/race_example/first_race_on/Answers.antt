@@ -1,5 +1,5 @@
 use Rattle.std.proofs.Common.{◌<◌, length, ℕ, subst, sym}
-use Rattle.lit_read.specs.Syntax.{Litmus}
+use Rattle.lit_syntax.specs.Syntax.{Litmus}
 use Rattle.lit_paths.specs.ByteReads.{IsCandidate}
 use Rattle.lit_paths.specs.Choice.{combinations_of}
 use Rattle.lit_solve.specs.Box.{box_with, events_on}

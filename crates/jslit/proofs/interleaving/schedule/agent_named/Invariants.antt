@@ -1,5 +1,5 @@
 use Rattle.std.proofs.Common.{◌≢◌, ◌<◌, ℕ}
-use Rattle.lit_read.specs.Syntax.{agent_of}
+use Rattle.lit_syntax.specs.Syntax.{agent_of}
 use Rattle.jslit.proofs.interleaving.schedule.agent_named.Given as goal
 
 abbrev pub invariant-loop-agent : goal.invariant-loop-agent

@@ -1,5 +1,5 @@
 use Rattle.std.proofs.Common.{arith, ap, sym, subst, ◌∙◌, ℕ}
-use Rattle.lit_read.specs.Syntax.{Litmus, agent_of}
+use Rattle.lit_syntax.specs.Syntax.{Litmus, agent_of}
 use Rattle.lit_paths.specs.PathModel.{path_model}
 use Rattle.lit_paths.specs.Plan.{path_in, walk_in, IsWalkIn}
 use Rattle.lit_paths.specs.Internal.Combining.{walk_number}

@@ -1,7 +1,7 @@
 use Rattle.std.proofs.Common.{ℕ, List, length, arith, ap, sym, ◌∙◌}
-use Rattle.lit_read.specs.Litmus.{statements_of}
-use Rattle.lit_read.specs.Syntax.{Litmus, agent_of}
-use Rattle.lit_read.specs.StatementOrder.{statement_count}
+use Rattle.lit_syntax.specs.Litmus.{statements_of}
+use Rattle.lit_syntax.specs.Syntax.{Litmus, agent_of}
+use Rattle.lit_syntax.specs.StatementOrder.{statement_count}
 use Rattle.lit_paths.specs.PathModel.{PathModel}
 use Rattle.lit_paths.specs.Plan.{walk_in}
 use Rattle.lit_paths.specs.Internal.Walks.{longest}

@@ -9,7 +9,7 @@ use Rattle.lit_paths.specs.Plan.{AreEventsIn, first_event}
 use Rattle.lit_paths.specs.Internal.Combining.{walk_number}
 use Rattle.lit_paths.proofs.AgentPaths.{count_of-some}
 use Rattle.lit_paths.proofs.Walks.{walks_of-some}
-use Rattle.lit_read.specs.Syntax.{agent_of}
+use Rattle.lit_syntax.specs.Syntax.{agent_of}
 use Rattle.lit_paths.proofs.CombinedPaths.{count_of-combinations, events_whole, numbered_is, next_path_is, joined_none, joined_more, accesses_room, IsNextPath}
 use Rattle.lit_paths.proofs.EventFacts.{are_events}
 use Rattle.lit_paths.proofs.combination.paths.join.Goals as goal

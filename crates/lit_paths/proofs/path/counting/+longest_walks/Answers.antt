@@ -1,6 +1,6 @@
 use Rattle.std.proofs.Common.{arith, ap, ◌∙◌}
-use Rattle.lit_read.specs.Litmus.{statement_of, statements_of}
-use Rattle.lit_read.proofs.TreeViews.{if_views}
+use Rattle.lit_syntax.specs.Litmus.{statement_of, statements_of}
+use Rattle.lit_syntax.proofs.TreeViews.{if_views}
 use Rattle.lit_paths.specs.Internal.Walks.{many_accesses, longest, statement_longest}
 use Rattle.lit_paths.proofs.Counts.{measured_more, measured_end}
 use Rattle.lit_paths.proofs.path.counting.+longest_walks.Goals as goal

@@ -1,6 +1,6 @@
 use Rattle.std.proofs.Common.{arith, ap, ◌∙◌, length, mul-le-mul, ◌≤◌}
-use Rattle.lit_read.specs.Litmus.{statement_of, statements_of}
-use Rattle.lit_read.proofs.TreeViews.{if_views}
+use Rattle.lit_syntax.specs.Litmus.{statement_of, statements_of}
+use Rattle.lit_syntax.proofs.TreeViews.{if_views}
 use Rattle.lit_paths.specs.Path.{statement_walks, walks_of}
 use Rattle.lit_paths.specs.Internal.Walks.{many_walks}
 use Rattle.lit_paths.proofs.Walks.{length-walks-if}

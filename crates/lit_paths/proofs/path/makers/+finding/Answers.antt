@@ -1,7 +1,7 @@
 use Rattle.std.proofs.Common.{◌≡◌, ◌+◌, ◌++◌, ℕ, List, arith, ap, sym, ◌∙◌}
-use Rattle.lit_read.specs.Litmus.{statement_of, statements_of}
-use Rattle.lit_read.specs.StatementOrder.{count_with_parts, statement_count}
-use Rattle.lit_read.proofs.TreeViews.{if_views}
+use Rattle.lit_syntax.specs.Litmus.{statement_of, statements_of}
+use Rattle.lit_syntax.specs.StatementOrder.{count_with_parts, statement_count}
+use Rattle.lit_syntax.proofs.TreeViews.{if_views}
 use Rattle.lit_paths.specs.declared.path.Tested.{Tested}
 use Rattle.lit_paths.specs.Internal.Makers.{makers_of}
 use Rattle.lit_paths.specs.Internal.Walks.{longest}

@@ -1,5 +1,5 @@
 use Rattle.std.proofs.Common.{◌+◌, ◌*◌}
-use Rattle.lit_read.specs.Litmus.{statement_of, statements_of}
+use Rattle.lit_syntax.specs.Litmus.{statement_of, statements_of}
 use Rattle.lit_paths.proofs.Stepping.{size_of, statement_size}
 use Rattle.lit_paths.proofs.MakerSteps.{IsFinding}
 use Rattle.lit_paths.proofs.path.makers.+finding.Given as goal

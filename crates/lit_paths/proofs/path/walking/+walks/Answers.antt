@@ -1,7 +1,7 @@
 use Rattle.std.proofs.Common.{arith, ap, sym, ◌∙◌, ◌-◌, length, not, subst, ℕ}
 use Rattle.std.proofs.lemmas.Result.{IfOk-weaker}
-use Rattle.lit_read.specs.Litmus.{statement_of, statements_of}
-use Rattle.lit_read.proofs.TreeViews.{if_views}
+use Rattle.lit_syntax.specs.Litmus.{statement_of, statements_of}
+use Rattle.lit_syntax.proofs.TreeViews.{if_views}
 use Rattle.lit_paths.specs.Path.{walks_of}
 use Rattle.lit_paths.specs.PathModel.{PathModel}
 use Rattle.lit_paths.specs.declared.limits.TheConstants.{COMBINATION_LIMIT}

@@ -1,5 +1,5 @@
 use Rattle.std.proofs.Common.{◌≡◌, ◌+◌, ◌*◌, length}
-use Rattle.lit_read.specs.Litmus.{statement_of, statements_of}
+use Rattle.lit_syntax.specs.Litmus.{statement_of, statements_of}
 use Rattle.lit_paths.specs.Path.{walks_of}
 use Rattle.lit_paths.proofs.Stepping.{IsOnWay, left_of, statement_size, size_of}
 use Rattle.lit_paths.proofs.path.walking.+walks.Given as goal

@@ -1,5 +1,5 @@
 use Rattle.std.proofs.Common.{subst}
-use Rattle.lit_read.specs.Syntax.{Litmus, IsLitmus}
+use Rattle.lit_syntax.specs.Syntax.{Litmus, IsLitmus}
 use Rattle.lit_paths.proofs.planning.Plan.test.Goals as goal
 
 pub returns-clause-litmus : goal.returns-clause-litmus

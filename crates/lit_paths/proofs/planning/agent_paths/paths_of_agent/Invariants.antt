@@ -1,4 +1,4 @@
-use Rattle.lit_read.specs.Litmus.{statements_of}
+use Rattle.lit_syntax.specs.Litmus.{statements_of}
 use Rattle.lit_paths.proofs.AgentPaths.{AreFirst}
 use Rattle.lit_paths.proofs.planning.agent_paths.paths_of_agent.Given as goal
 

@@ -2,7 +2,7 @@ use Rattle.std.proofs.Common.{arith, rules, ◌≡◌, ◌⊎◌, ◌<◌, subst
 use Rattle.std.specs.Prelude.{IfErr}
 use Rattle.std.proofs.lemmas.Result.{IfErr-weaker}
 use Rattle.std.proofs.lemmas.Bool.{false≢true}
-use Rattle.lit_read.specs.Syntax.{Litmus}
+use Rattle.lit_syntax.specs.Syntax.{Litmus}
 use Rattle.lit_paths.specs.declared.limits.TheConstants.{ACCESS_LIMIT, CHOICE_LIMIT}
 use Rattle.lit_paths.specs.declared.fault.PlanFault.TheVariants.{OutOfMemory, TooManyChoices}
 use Rattle.lit_paths.specs.Choice.{choices_of}

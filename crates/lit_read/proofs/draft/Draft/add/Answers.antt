@@ -6,8 +6,8 @@ use Rattle.lit_read.specs.declared.forms.Line as said
 use Rattle.lit_read.specs.declared.draft.Draft as drafts
 use Rattle.lit_read.specs.declared.draft.Draft.TheVariants as draft
 use Rattle.lit_read.specs.declared.draft.Open as opens
-use Rattle.lit_read.specs.Written.{Written}
-use Rattle.lit_read.specs.Forms.{Form, CheckLine}
+use Rattle.lit_syntax.specs.Written.{Written}
+use Rattle.lit_syntax.specs.Forms.{Form, CheckLine}
 use Rattle.lit_read.specs.Internal.State.{State, check_step, step}
 use Rattle.lit_read.specs.Internal.Views.{state_view, mark_views, Shows, Fails}
 use Rattle.lit_read.proofs.draft.Draft.add.Goals as goal

@@ -3,11 +3,11 @@ use Rattle.std.specs.Prelude.{string_bytes}
 use Rattle.std.specs.List.{list_all}
 use Rattle.std.proofs.lemmas.List.{length-append}
 use Rattle.std.proofs.lemmas.Result.{err_from_is_err_and}
-use Rattle.lit_read.specs.Syntax.{Agent, Condition, End, IsLitmus}
-use Rattle.lit_read.specs.Litmus.{statements_of, condition_of}
+use Rattle.lit_syntax.specs.Syntax.{Agent, Condition, End, Litmus, IsLitmus}
+use Rattle.lit_syntax.specs.Litmus.{statements_of, condition_of, agents_view}
 use Rattle.lit_read.specs.Internal.Built.{build, begun}
 use Rattle.lit_read.specs.Internal.State.{IsState, Whole, with_agent, is_known_mark}
-use Rattle.lit_read.specs.Internal.Views.{agents_view, mark_view, mark_views, Fails}
+use Rattle.lit_read.specs.Internal.Views.{mark_view, mark_views, Fails}
 use Rattle.lit_read.proofs.DraftLemmas.{last_is_new}
 use Rattle.lit_read.proofs.CheckSteps.{too_open, too_large, not_known, build_fails, makes, made_litmus, few_entries, is_zero, is_some_number}
 use Rattle.lit_read.proofs.draft.Open.check.Goals as goal
@@ -54,8 +54,8 @@ returns-in_err-check c = λ w is.
     (sym c.are_small.ensures ∙ c.if-not-are_small.false)
     (ap (λ (l : List Agent). list_all (λ m. is_known_mark l (mark_view m)) c.args.marks.now) (sym c.in_ok-agents.ensures) ∙ sym c.are_known.ensures ∙ c.if-not-are_known.false) fails)
 
-pub invariant_of-result : goal.invariant_of-result
-invariant_of-result c =
+pub new-requires : goal.new-requires
+new-requires c =
     let agents : List Agent = with_agent (agents_view c.args.self.agents.entries) (string_bytes c.args.self.agent) (statements_of c.args.self.body.items) in
     let check : Condition = condition_of c.in_ok-check.check in
     let len : vec_len c.args.self.ifs ≡ 0 = is_zero (vec_len c.args.self.ifs) c.is_empty.result c.is_empty.ensures c.if-not-is_empty.false in
@@ -77,3 +77,4 @@ returns c = λ w marks_are.
     (sym c.are_small.ensures ∙ c.if-not-are_small.false)
     (ap (λ (l : List Agent). list_all (λ m. is_known_mark l (mark_view m)) c.args.marks.now) (sym c.in_ok-agents.ensures) ∙ sym c.are_known.ensures ∙ c.if-not-are_known.false) is
     ∙ ap (λ (l : List Agent). Ok (Whole (record { name = string_bytes c.args.self.name; bytes = c.args.self.bytes; agents = l; check = check }))) (sym c.in_ok-agents.ensures)
+    ∙ ap (λ (l : Litmus). Ok (Whole l)) (sym c.new.ensures)

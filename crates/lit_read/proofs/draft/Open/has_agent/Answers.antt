@@ -1,7 +1,7 @@
 use Rattle.std.proofs.Common.{ap, ◌∙◌}
 use Rattle.std.specs.Str.{bytes_eq}
 use Rattle.std.specs.Prelude.{string_bytes}
-use Rattle.lit_read.specs.Litmus.{statements_of}
+use Rattle.lit_syntax.specs.Litmus.{statements_of}
 use Rattle.lit_read.proofs.DraftLemmas.{taken_before, taken_here}
 use Rattle.lit_read.proofs.draft.Open.has_agent.Goals as goal
 

@@ -1,9 +1,8 @@
 use Rattle.std.proofs.Common.{◌≡◌, ℕ, length, arith, sym, ◌∙◌, vec_len, ap, Ok, List}
 use Rattle.std.specs.Prelude.{string_bytes}
-use Rattle.lit_read.specs.Syntax.{End}
-use Rattle.lit_read.specs.Litmus.{statements_of}
+use Rattle.lit_syntax.specs.Syntax.{End}
+use Rattle.lit_syntax.specs.Litmus.{statements_of, agents_view}
 use Rattle.lit_read.specs.Internal.State.{Open, IsState}
-use Rattle.lit_read.specs.Internal.Views.{agents_view}
 use Rattle.lit_read.proofs.DraftLemmas.{last_is_new}
 use Rattle.lit_read.proofs.CheckSteps.{views, next_ok, is_zero}
 use Rattle.lit_read.proofs.draft.Open.next.Goals as goal

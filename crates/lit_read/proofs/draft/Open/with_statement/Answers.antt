@@ -1,9 +1,8 @@
 use Rattle.std.proofs.Common.{ap, sym, ◌∙◌, Ok}
 use Rattle.std.specs.Prelude.{string_bytes}
-use Rattle.lit_read.specs.Syntax.{Statements}
-use Rattle.lit_read.specs.Litmus.{statements_of}
+use Rattle.lit_syntax.specs.Syntax.{Statements}
+use Rattle.lit_syntax.specs.Litmus.{statements_of, agents_view}
 use Rattle.lit_read.specs.Internal.State.{Open}
-use Rattle.lit_read.specs.Internal.Views.{agents_view}
 use Rattle.lit_read.proofs.CheckSteps.{views}
 use Rattle.lit_read.proofs.DraftLemmas.{statements_pushed}
 use Rattle.lit_read.proofs.draft.Open.with_statement.Goals as goal

@@ -1,11 +1,11 @@
 use Rattle.std.proofs.Common.{◌≡◌, List, ap, sym, ◌∙◌, Option}
 use Rattle.std.specs.Global.{Vec}
-use Rattle.lit_read.specs.declared.syntax.Stmt.{Stmt}
-use Rattle.lit_read.specs.Syntax.{Statement, Statements, If}
-use Rattle.lit_read.specs.Litmus.{statements_of}
+use Rattle.lit_syntax.specs.declared.syntax.Stmt.{Stmt}
+use Rattle.lit_syntax.specs.Syntax.{Statement, Statements, If}
+use Rattle.lit_syntax.specs.Litmus.{statements_of}
 use Rattle.lit_read.specs.Internal.State.{followed_by, ended_if}
 use Rattle.lit_read.specs.Internal.Views.{open_if_view, part_view}
-use Rattle.lit_read.proofs.TreeViews.{if_views}
+use Rattle.lit_syntax.proofs.TreeViews.{if_views}
 use Rattle.lit_read.proofs.DraftLemmas.{statements_pushed}
 use Rattle.lit_read.proofs.draft.OpenIf.ended.Goals as goal
 use Rattle.lit_read.proofs.draft.OpenIf.ended.Goals.{in-Some, in-None}

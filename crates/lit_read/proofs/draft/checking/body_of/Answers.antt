@@ -1,5 +1,5 @@
 use Rattle.std.proofs.Common.{ap, sym, is_some, ◌∙◌}
-use Rattle.lit_read.specs.Litmus.{statements_of}
+use Rattle.lit_syntax.specs.Litmus.{statements_of}
 use Rattle.lit_read.proofs.DraftLemmas.{body_is, body_absent}
 use Rattle.lit_read.proofs.draft.checking.body_of.Goals as goal
 

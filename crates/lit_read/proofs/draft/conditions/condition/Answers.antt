@@ -1,8 +1,9 @@
 use Rattle.std.proofs.Common.{◌∙◌, ap, Ok, sym}
 use Rattle.std.proofs.lemmas.Result.{err_from_is_err_and}
-use Rattle.lit_read.specs.Syntax.{Condition}
+use Rattle.lit_syntax.specs.Syntax.{Condition}
+use Rattle.lit_syntax.specs.Litmus.{agents_view}
 use Rattle.lit_read.specs.Internal.Built.{begun, build}
-use Rattle.lit_read.specs.Internal.Views.{agents_view, groups_view, mark_views}
+use Rattle.lit_read.specs.Internal.Views.{groups_view, mark_views}
 use Rattle.lit_read.proofs.GroupLemmas.{build_fails, build_goes_on, build_ends}
 use Rattle.lit_read.proofs.draft.conditions.condition.Goals as goal
 

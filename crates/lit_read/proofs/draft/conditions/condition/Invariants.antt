@@ -1,6 +1,7 @@
 use Rattle.std.proofs.Common.{◌≡◌, drop}
+use Rattle.lit_syntax.specs.Litmus.{agents_view}
 use Rattle.lit_read.specs.Internal.Built.{begun, build}
-use Rattle.lit_read.specs.Internal.Views.{agents_view, groups_view, mark_views}
+use Rattle.lit_read.specs.Internal.Views.{groups_view, mark_views}
 use Rattle.lit_read.proofs.draft.conditions.condition.Given as goal
 
 abbrev pub invariant-loop-mark : goal.invariant-loop-mark

@@ -1,5 +1,5 @@
 use Rattle.std.proofs.Common.{◌≡◌}
-use Rattle.lit_read.specs.Litmus.{condition_of}
+use Rattle.lit_syntax.specs.Litmus.{condition_of}
 use Rattle.lit_read.specs.Internal.Built.{negated}
 use Rattle.lit_read.proofs.draft.conditions.negated.Given as goal
 

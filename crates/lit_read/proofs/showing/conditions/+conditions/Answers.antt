@@ -1,12 +1,11 @@
 use Rattle.std.proofs.Common.{arith, ◌≡◌, ◌++◌, ℕ, List, string_bytes, codes, sym, ap, ◌∙◌}
 use Rattle.std.proofs.lemmas.Result.{on_ok_weaker}
-use Rattle.lit_read.specs.declared.syntax.Cond.{Cond}
-use Rattle.lit_read.specs.Syntax.{Condition}
-use Rattle.lit_read.specs.Litmus.{condition_of}
-use Rattle.lit_read.specs.Parentheses.{operand_of, conjunction_of, all_written, any_written}
+use Rattle.lit_syntax.specs.declared.syntax.Cond.{Cond}
+use Rattle.lit_syntax.specs.Syntax.{Condition}
+use Rattle.lit_syntax.specs.Litmus.{condition_of, conditions_view}
+use Rattle.lit_syntax.specs.Parentheses.{operand_of, conjunction_of, all_written, any_written}
 use Rattle.lit_read.specs.CanonicalText.{operand_text, conjunction_text, written_text}
-use Rattle.lit_read.specs.Internal.Views.{conditions_view}
-use Rattle.lit_read.proofs.TreeViews.{all_views, any_views}
+use Rattle.lit_syntax.proofs.TreeViews.{all_views, any_views}
 use Rattle.lit_read.proofs.ShownForms.{last_pushed, three_written}
 use Rattle.lit_read.proofs.ShownConditions.{member_put, members_put, tight, loose, all_shown, any_shown, member_on, all_on, any_on, member_lighter, all_lighter, any_lighter}
 use Rattle.lit_read.proofs.showing.conditions.+conditions.Goals as goal

@@ -1,6 +1,5 @@
 use Rattle.std.proofs.Common.{◌≡◌, ◌+◌, ◌*◌, ◌++◌, drop, string_bytes, codes}
-use Rattle.lit_read.specs.Litmus.{condition_of}
-use Rattle.lit_read.specs.Internal.Views.{conditions_view}
+use Rattle.lit_syntax.specs.Litmus.{condition_of, conditions_view}
 use Rattle.lit_read.proofs.ShownConditions.{left, tight, loose, weight, weights}
 use Rattle.lit_read.proofs.showing.conditions.+conditions.Given as goal
 

@@ -1,12 +1,11 @@
 use Rattle.std.proofs.Common.{◌≡◌, ◌++◌, ℕ, List, string_bytes, sym, ap, ◌∙◌}
 use Rattle.std.proofs.lemmas.Result.{on_ok_weaker}
-use Rattle.lit_read.specs.declared.syntax.Cond.{Cond}
-use Rattle.lit_read.specs.Syntax.{Condition}
-use Rattle.lit_read.specs.Litmus.{condition_of}
-use Rattle.lit_read.specs.Parentheses.{any_written, written_of}
+use Rattle.lit_syntax.specs.declared.syntax.Cond.{Cond}
+use Rattle.lit_syntax.specs.Syntax.{Condition}
+use Rattle.lit_syntax.specs.Litmus.{condition_of, conditions_view}
+use Rattle.lit_syntax.specs.Parentheses.{any_written, written_of}
 use Rattle.lit_read.specs.CanonicalText.{written_text}
-use Rattle.lit_read.specs.Internal.Views.{conditions_view}
-use Rattle.lit_read.proofs.TreeViews.{any_views}
+use Rattle.lit_syntax.proofs.TreeViews.{any_views}
 use Rattle.lit_read.proofs.ShownConditions.{any_on}
 use Rattle.lit_read.proofs.showing.conditions.put_condition.Goals as goal
 

@@ -1,8 +1,8 @@
 use Rattle.std.proofs.Common.{◌≡◌, ◌++◌, List, [], ◌∷◌, ℕ, string_bytes, codes, sym, ap, ◌∙◌, append_assoc}
 use Rattle.std.proofs.lemmas.Result.{on_ok_weaker}
-use Rattle.lit_read.specs.declared.syntax.Stmt.{Stmt}
-use Rattle.lit_read.specs.Forms.{IfLine}
-use Rattle.lit_read.specs.Litmus.{statement_of, statements_of}
+use Rattle.lit_syntax.specs.declared.syntax.Stmt.{Stmt}
+use Rattle.lit_syntax.specs.Forms.{IfLine}
+use Rattle.lit_syntax.specs.Litmus.{statement_of, statements_of}
 use Rattle.lit_read.specs.Canonical.{statement_forms, statements_forms, else_forms}
 use Rattle.lit_read.specs.CanonicalText.{forms_text}
 use Rattle.lit_read.proofs.ShownForms.{statement_put, else_shown, if_shown, last_pushed, four_written}

@@ -1,5 +1,5 @@
 use Rattle.std.proofs.Common.{◌≡◌, ◌++◌, drop, string_bytes}
-use Rattle.lit_read.specs.Litmus.{statements_of}
+use Rattle.lit_syntax.specs.Litmus.{statements_of}
 use Rattle.lit_read.specs.Canonical.{statements_forms}
 use Rattle.lit_read.specs.CanonicalText.{forms_text}
 use Rattle.lit_read.proofs.showing.statements.+statements.Given as goal

@@ -1,6 +1,6 @@
 use Rattle.std.proofs.Common.{arith, ap, sym, ◌∙◌, length, map, take, List, [], ◌∷◌, ◌++◌, subst}
 use Rattle.std.proofs.lemmas.List.{map-append, take_all}
-use Rattle.lit_read.specs.Syntax.{Statements}
+use Rattle.lit_syntax.specs.Syntax.{Statements}
 use Rattle.lit_paths.specs.Path.{walks_of}
 use Rattle.lit_paths.specs.PathModel.{PathModel}
 use Rattle.lit_paths.specs.Internal.Combining.{path_models, all_path_models}

@@ -1,0 +1,68 @@
+//! Writes the line of a refusal through the output buffer (decision 69).
+
+ghost use Rattle.std.specs.Prelude.{◌≡◌, OnOk, OnErr};
+ghost use Rattle.std.specs.Io.KnownBytes.{Appends};
+ghost use Rattle.lit_print.specs.Counted.{device_of, failures_of, one_more};
+ghost use Rattle.lit_print.specs.Writing.{AppendsBeginning};
+ghost use Rattle.jslit.specs.RefusalText.{read_fault_line, plan_fault_line, refusal_line};
+
+use crate::fault::RunFault;
+use crate::report::finish;
+use lit_paths::PlanFault;
+use lit_print::{Buffer, Counted};
+use lit_read::ReadFault;
+use std::io::Write;
+
+/// Writes the line on a schedule of which a member is no agent's name. Takes no memory.
+pub(crate) fn write_unknown_agent<W: Write>(output: &mut Counted<W>) -> Result<(), RunFault>
+    ensures written { OnOk result
+        (Appends (W.contents (device_of output.old)) (W.contents (device_of output.new)) (refusal_line RunFault.UnknownAgent)) }
+    ensures not_failed { OnOk result (failures_of output.new ≡ failures_of output.old) }
+    ensures begun { OnErr result
+        (AppendsBeginning (W.contents (device_of output.old)) (W.contents (device_of output.new)) (refusal_line RunFault.UnknownAgent)) }
+    ensures failed { OnErr result (failures_of output.new ≡ one_more (failures_of output.old)) }
+{
+    let mut buffer = Buffer::new();
+    buffer.put(output, b"refused 20 unknown_agent\n");
+    finish(buffer, output)
+}
+
+/// Writes the line on a text that spells no test. Takes no memory.
+pub(crate) fn write_read_fault<W: Write>(
+    output: &mut Counted<W>,
+    fault: ReadFault,
+) -> Result<(), RunFault>
+    ensures written { OnOk result
+        (Appends (W.contents (device_of output.old)) (W.contents (device_of output.new)) (read_fault_line fault)) }
+    ensures not_failed { OnOk result (failures_of output.new ≡ failures_of output.old) }
+    ensures begun { OnErr result
+        (AppendsBeginning (W.contents (device_of output.old)) (W.contents (device_of output.new)) (read_fault_line fault)) }
+    ensures failed { OnErr result (failures_of output.new ≡ one_more (failures_of output.old)) }
+{
+    let mut buffer = Buffer::new();
+    buffer.put(output, b"refused ");
+    buffer.put(output, fault.kind.as_str().as_bytes());
+    buffer.put(output, b" line ");
+    buffer.put_number(output, fault.line as u64);
+    buffer.put(output, b"\n");
+    finish(buffer, output)
+}
+
+/// Writes the line on a test that exceeds a limit. Takes no memory.
+pub(crate) fn write_plan_fault<W: Write>(
+    output: &mut Counted<W>,
+    fault: PlanFault,
+) -> Result<(), RunFault>
+    ensures written { OnOk result
+        (Appends (W.contents (device_of output.old)) (W.contents (device_of output.new)) (plan_fault_line fault)) }
+    ensures not_failed { OnOk result (failures_of output.new ≡ failures_of output.old) }
+    ensures begun { OnErr result
+        (AppendsBeginning (W.contents (device_of output.old)) (W.contents (device_of output.new)) (plan_fault_line fault)) }
+    ensures failed { OnErr result (failures_of output.new ≡ one_more (failures_of output.old)) }
+{
+    let mut buffer = Buffer::new();
+    buffer.put(output, b"refused ");
+    buffer.put(output, fault.as_str().as_bytes());
+    buffer.put(output, b"\n");
+    finish(buffer, output)
+}

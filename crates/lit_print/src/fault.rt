@@ -1,0 +1,8 @@
+//! That a write failed.
+
+use thiserror::Error;
+
+/// A write failed, or took nothing of bytes that are not empty.
+#[derive(Clone, Copy, Debug, PartialEq, Eq, Error)]
+#[error("output_failed")]
+pub struct OutputFailed;

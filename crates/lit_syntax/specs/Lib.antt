@@ -1,0 +1,9 @@
+pub mod Trees
+pub mod Syntax
+pub mod SyntaxCodes
+pub mod Litmus
+pub mod Tokens
+pub mod Written
+pub mod Parentheses
+pub mod Forms
+pub mod StatementOrder
