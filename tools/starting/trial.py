@@ -13,10 +13,11 @@ TOP = pathlib.Path(__file__).resolve().parent.parent.parent
 SOURCES = {
     "crates/low/src/lib.rt": "low\n", "crates/low/src/out/inner.rt": "inner\n", "crates/low/specs/Lib.antt": "spec\n",
     "crates/low/proofs/a name/Answers.antt": "proof\n", "crates/middle/src/lib.rt": "middle\n",
+    "crates/beside/src/lib.rt": "beside\n",
     "crates/jslit_cli/src/main.rt": "main\n", "crates/jslit_cli/src/stdin": "a source of that name\n",
 }
 OTHERS = {
-    "crates.txt": "# A crate a line.\nlow: arrayvec\nmiddle: low clap\njslit_cli: middle\nlow_tests: low\n", "HANDLES": "Handles allowed: none.\n",
+    "crates.txt": "# A crate a line.\nlow: arrayvec\nbeside:\nmiddle: low clap\njslit_cli: middle beside\nlow_tests: low\n", "HANDLES": "Handles allowed: none.\n",
     "crates/low/must-fail/one.edit": "edit\n", "crates/low_tests/src/lib.rt": "tests\n", "crates/jslit_cli/stdin": "in\n",
     "crates/jslit_cli/stdout": "out\n", "README.md": "words\n",
 }
@@ -34,7 +35,7 @@ case $1 in
     run)
         mkdir -p out && echo >>../../builds
         cd ..
-        sum=$(find {low,middle,jslit_cli}/{src,specs,proofs} -type f -print0 2>/dev/null | LC_ALL=C sort -z | xargs -0 sha256sum | sha256sum)
+        sum=$(find {low,middle,beside,jslit_cli}/{src,specs,proofs} -type f -print0 2>/dev/null | LC_ALL=C sort -z | xargs -0 sha256sum | sha256sum)
         cd jslit_cli
         printf '#!/bin/sh\necho %s\n' "${sum%% *}" >out/jslit_cli.made
         chmod +x out/jslit_cli.made && mv out/jslit_cli.made out/jslit_cli ;;
@@ -97,7 +98,7 @@ class Repository:
     def wanted(self):
         """What the program of the sources, as they are now, prints."""
         crates = self.folder / "crates"
-        found = sorted(path.relative_to(crates).as_posix() for crate in ("low", "middle", "jslit_cli") for part in ("src", "specs", "proofs")
+        found = sorted(path.relative_to(crates).as_posix() for crate in ("low", "middle", "beside", "jslit_cli") for part in ("src", "specs", "proofs")
                        for path in (crates / crate / part).rglob("*") if path.is_file())
         lines = [f"{hashlib.sha256((crates / name).read_bytes()).hexdigest()}  {name}\n" for name in found]
         return hashlib.sha256("".join(lines).encode()).hexdigest() + "\n"
@@ -174,6 +175,8 @@ class Check:
         self.tools = self.work / "bin"
         self.tools.mkdir()
         self.command(self.tools / "rt", RT)
+        # Where rt keeps what one copy of a repository may take from another.
+        (pathlib.Path(work) / "rattle-kept/work").mkdir(parents=True)
         # What is preloaded can't have blanks in its name.
         self.forks = pathlib.Path(work) / "forks.so"
         subprocess.run([os.environ.get("CC", "cc"), "-shared", "-fPIC", "-o", self.forks, "-x", "c", TOP / "tools/refusing/forks.c.in"], check=True)
