@@ -6,11 +6,3 @@ pub mod MergedEntries
 pub mod Reports
 pub mod RisenEntries
 pub mod GainLemmas
-pub mod NextAccess
-pub mod MomentLemmas
-pub mod SequentialLemmas
-pub mod ActLemmas
-pub mod FutureLemmas
-pub mod TimeLemmas
-pub mod WriterLemmas
-pub mod RunsInTurn

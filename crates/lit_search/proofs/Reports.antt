@@ -1,9 +1,10 @@
--- Reports of sets of choices: of two sets, and that a set has one.
-use Rattle.lit_search.proofs.Words.{◌<◌, ap, ap₂, AreEntries, AreMerged, arith, Bool, cases_lt, choices_of, Entry, Equal, exact_bytes}
-use Rattle.lit_search.proofs.Words.{example_cmp, execution_choice, execution_events, false≢true, Gives, GivesRace, Greater, HasInEither}
-use Rattle.lit_search.proofs.Words.{HasLeastOrder, in_either, inl, inr, is_gt, IsEntry, IsFalse, IsLeastMemoryOrder, IsMerge, IsReport}
-use Rattle.lit_search.proofs.Words.{IsTrue, length, Less, List, Litmus, nat_cmp_is, or_left, or_right, refl, Report, slice_get_within}
-use Rattle.lit_search.proofs.Words.{subst, sym, true, ℕ, ◌∙◌, ◌≡◌, ◌≤◌, ◌⊎◌}
+-- Reports of sets of choices: of two sets, that a set has one, and that the report of all choices has the outcome of each schedule.
+use Rattle.lit_search.proofs.Words.{◌<◌, [], All, and_from, ap, ap₂, AreEntries, AreMerged, arith, Bool, cases_lt, choices_of, Entry}
+use Rattle.lit_search.proofs.Words.{Equal, exact_bytes, example_cmp, execution_choice, execution_events, false≢true, Gives, GivesRace}
+use Rattle.lit_search.proofs.Words.{Greater, HasExecution, HasInEither, HasLeastOrder, in_either, in_range, inl, inr, interleaved, is_gt}
+use Rattle.lit_search.proofs.Words.{IsEntry, IsFalse, IsLeastMemoryOrder, IsMerge, IsReport, IsReported, IsTrue, Laws, le-leb, length}
+use Rattle.lit_search.proofs.Words.{Less, List, Litmus, lt-ltb, nat_cmp_is, nat_le, nat_lt, or_left, or_right, refl, Report}
+use Rattle.lit_search.proofs.Words.{slice_get_within, subst, sym, true, ℕ, ◌∙◌, ◌≡◌, ◌≤◌, ◌⊎◌}
 use Rattle.lit_search.proofs.NumberSets.{either_cases, same_test}
 use Rattle.lit_search.proofs.MergedEntries.{Stands, cmp, reversed, same_rising}
 
@@ -147,3 +148,20 @@ IsReport-unique t numbers a b h k =
     let entries : a.entries ≡ b.entries = AreEntries-unique t numbers a.entries b.entries h.listed k.listed in
     let race : a.race ≡ b.race = same_test a.race b.race (λ p. k.marked.1 (h.marked.0 p)) (λ q. h.marked.1 (k.marked.0 q)) in
     ap (λ (xs : List Entry). record { entries = xs; race = a.race }) entries ∙ ap (λ (mark : Bool). record { entries = b.entries; race = mark }) race
+
+-- ---- the outcome of each schedule in the report of all choices
+pub is_reported : Laws → (t : Litmus) (schedule : List ℕ) (report : Report) → HasExecution t schedule → IsReport t (in_range 0 (length (choices_of t))) report → IsReported t schedule report
+is_reported laws t schedule report has reports =
+    let x = has.0 in
+    let is = has.2 in
+    let listed = (laws.chosen t).all (execution_choice x) (laws.choice t x is.valid.candidate) in
+    let n = listed.0 in
+    let total = length (choices_of t) in
+    let inside : n < total = slice_get_within (choices_of t) n (execution_choice x) listed.1 in
+    reports.listed.whole n (interleaved t schedule) (and_from (nat_le 0 n) (nat_lt n total) (le-leb 0 n (omega arith)) (lt-ltb n total inside))
+    (record { execution = x; valid = is.valid; chosen = listed.1; result = is.result })
+
+pub some_entry : (t : Litmus) (report : Report) → (All (λ agent. agent < length t.agents) [] → IsReported t [] report) → 1 ≤ length report.entries
+some_entry t report reported =
+    let is = reported (λ k d lt. absurd (omega (arith, lt))) in
+    omega (arith, slice_get_within report.entries is.0 is.1 is.2)

@@ -6,4 +6,3 @@ pub mod Gained
 pub mod Boxed
 pub mod Packed
 pub mod Ranks
-pub mod Runners

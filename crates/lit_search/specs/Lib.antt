@@ -6,6 +6,4 @@ pub mod Internal
 pub mod Examples
 pub mod Ranked
 pub mod Found
-pub mod Interleaving
-pub mod Sequential
-pub mod InTurn
+pub mod Reported

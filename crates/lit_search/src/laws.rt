@@ -1,16 +1,12 @@
-//! Laws of reports, of valid executions and of schedules. The functions do nothing: their contracts are theorems.
+//! Laws of reports, and of schedules in them. The functions do nothing: their contracts are theorems.
 
 ghost use Rattle.std.specs.Prelude.{◌≡◌, ℕ, ◌<◌, ◌≤◌, All, Bool, List, length};
 ghost use Rattle.lit_syntax.specs.Syntax.{IsLitmus, Litmus};
 ghost use Rattle.lit_paths.specs.Choice.{choices_of};
-ghost use Rattle.lit_paths.specs.Execution.{Execution, IsCandidateExecution, execution_events};
-ghost use Rattle.lit_order.specs.MemoryOrder.{IsMemoryOrder};
-ghost use Rattle.lit_valid.specs.ValidExecution.{HasValidChosenReads, IsValidExecution};
-ghost use Rattle.lit_search.specs.InTurn.{HasExecution, IsReported};
 ghost use Rattle.lit_search.specs.Report.{IsReport, Report, in_range};
-ghost use Rattle.lit_search.specs.Sequential.{IsSequential};
+ghost use Rattle.lit_search.specs.Reported.{IsReported};
 
-use lit_rel::laws::byte_reads_are_of_events;
+pub use lit_interleave::laws::{interleavings_are_valid, sequential_executions_are_valid};
 use lit_valid::laws::laws_below;
 pub use lit_valid::laws::{
     broken_parts_have_no_completion, choices_have_one_outcome, orders_of_completions_respect_parts,
@@ -27,25 +23,6 @@ pub fn reports_go_by_choices()
     ensures { (t : Litmus) (some others : ℕ → Bool) (report : Report)
         → ((n : ℕ) → n < length (choices_of t) → some n ≡ others n) → IsReport t some report → IsReport t others report }
 {}
-
-/// A candidate execution with valid chosen reads, in which each read takes what was written last in one order of all
-/// events, is valid, and that order is a memory-order of it.
-pub fn sequential_executions_are_valid()
-    ensures { (t : Litmus) (x : Execution) (order : List ℕ) → IsCandidateExecution t x → HasValidChosenReads t x
-        → IsSequential (execution_events t x) x.sources order
-        → IsValidExecution t x × IsMemoryOrder (execution_events t x) x.sources order }
-{
-    byte_reads_are_of_events();
-}
-
-/// The outcome of a schedule is that of a valid execution. Each of its reads takes what was written last before it in
-/// the order of the turns, and that order is a memory-order of it.
-pub fn interleavings_are_valid()
-    ensures { (t : Litmus) (schedule : List ℕ) → IsLitmus t → All (λ agent. agent < length t.agents) schedule → HasExecution t schedule }
-{
-    byte_reads_are_of_events();
-    sequential_executions_are_valid();
-}
 
 /// The report of all choices of a test has the outcome of each schedule.
 pub fn interleavings_are_reported()

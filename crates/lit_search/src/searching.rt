@@ -10,9 +10,9 @@ ghost use Rattle.lit_search.specs.Internal.Boxed.{AreOfRange};
 ghost use Rattle.lit_search.specs.Internal.Gained.{Gains, GoesOn};
 
 use crate::collector::Collector;
-use crate::fault::SearchFault;
 use crate::found::Found;
 use crate::found::examples::Examples;
+use lit_interleave::SearchFault;
 use lit_paths::{BYTE_READ_LIMIT, Plan};
 use lit_rel::EventSet;
 use lit_solve::{Boxes, Goal, Heartbeat, NoHeartbeat, Problem, exists, least, number_of, outcomes};

@@ -9,10 +9,10 @@ ghost use Rattle.lit_search.specs.Report.{IsReport, in_either};
 ghost use Rattle.lit_search.specs.Internal.Merged.{heads_cmp, lesser as lesser_of, merged};
 ghost use Rattle.lit_search.specs.Internal.Ranks.{AreRanks, IsRank};
 
-use crate::fault::SearchFault;
 use crate::found::Found;
 use crate::found::examples::Examples;
 use crate::found::ranking::{Rank, all_behind, cmp_ranks, find};
+use lit_interleave::SearchFault;
 use std::alloc::{AllocError, Global};
 use std::cmp::Ordering;
 use std::collections::VecDeque;

@@ -1,4 +1,4 @@
-use Rattle.lit_search.proofs.RunsInTurn.{is_reported}
+use Rattle.lit_search.proofs.Reports.{is_reported}
 use Rattle.lit_search.proofs.laws.interleavings_are_reported.Goals as goal
 
 pub returns : goal.returns

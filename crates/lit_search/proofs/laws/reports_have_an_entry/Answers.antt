@@ -1,5 +1,5 @@
 use Rattle.lit_search.proofs.Words.{[]}
-use Rattle.lit_search.proofs.RunsInTurn.{some_entry}
+use Rattle.lit_search.proofs.Reports.{some_entry}
 use Rattle.lit_search.proofs.laws.reports_have_an_entry.Goals as goal
 
 pub returns : goal.returns

@@ -1,0 +1,9 @@
+pub mod Words
+pub mod NextAccess
+pub mod MomentLemmas
+pub mod SequentialLemmas
+pub mod ActLemmas
+pub mod FutureLemmas
+pub mod TimeLemmas
+pub mod WriterLemmas
+pub mod RunsInTurn

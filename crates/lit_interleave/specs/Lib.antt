@@ -1,0 +1,4 @@
+pub mod Interleaving
+pub mod Sequential
+pub mod InTurn
+pub mod Internal
