@@ -4,7 +4,7 @@
 const fs = require('fs');
 const path = require('path');
 
-const FILE = path.resolve(__dirname, '..', '..', 'crates', 'jslit', 'src', 'command', 'version.rt');
+const FILE = path.resolve(__dirname, '..', '..', 'crates', 'lit_words', 'src', 'version.rt');
 const [, VERSION] = /"([0-9]+\.[0-9]+\.[0-9]+)\n/.exec(fs.readFileSync(FILE, 'latin1'));
 
 module.exports = { VERSION };

@@ -5,7 +5,7 @@ use Rattle.clap.specs.Words.{HasKind, IsAmong, Kinds, Text, kind_of}
 use Rattle.clap.specs.declared.error.Error.{Error}
 use Rattle.clap.specs.declared.error.kind.ErrorKind.{ErrorKind}
 use Rattle.clap.specs.declared.error.kind.ErrorKind.TheVariants as kinds
-use Rattle.jslit.specs.declared.command.asked_line.Line.{Line}
+use Rattle.lit_words.specs.declared.asked_line.Line.{Line}
 use Rattle.lit_print.specs.declared.counted.Counted.{Counted}
 use Rattle.jslit.specs.Answer.{IsCheckStatus}
 use Rattle.lit_print.specs.Counted.{device_of, failures_of}
@@ -15,7 +15,7 @@ use Rattle.jslit.specs.declared.fault.RunFault.{RunFault}
 use Rattle.jslit.specs.ProgramAnswer.{HasAnswered, IsAnswerBy, IsFaultBy}
 use Rattle.jslit.specs.RunAnswer.{HasServed}
 use Rattle.jslit.proofs.Finishing.{nothing_served}
-use Rattle.jslit.specs.Words.{AsksHelp, AsksRun, AsksVersion, IsAsked, IsRefused, faults_of, file_in, quick_in, schedule_in}
+use Rattle.lit_words.specs.Words.{AsksHelp, AsksRun, AsksVersion, IsAsked, IsRefused, faults_of, file_in, quick_in, schedule_in}
 
 -- what holds on a text that is told holds on some text
 on_some_text : (told : Option (List ℕ)) (Holds : List ℕ → Type 0) → OfToldText told Holds → OfToldText None Holds

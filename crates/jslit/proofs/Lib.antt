@@ -9,9 +9,7 @@ pub mod TestAnswers
 pub mod Told
 pub mod QuickAnswers
 pub mod OneAnswer
-pub mod NumberFlags
 pub mod Schedules
 pub mod Running
 pub mod Finishing
-pub mod AskedLines
 pub mod Answered

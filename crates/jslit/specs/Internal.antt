@@ -5,6 +5,5 @@ pub mod FirstEntry
 pub mod Answering
 pub mod Judging
 pub mod Pages
-pub mod Command
 pub mod Saying
 pub mod Scheduling

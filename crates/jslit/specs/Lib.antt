@@ -6,7 +6,6 @@ pub mod QuickAnswer
 pub mod Answer
 pub mod Schedule
 pub mod InterleavingAnswer
-pub mod Words
 pub mod RunAnswer
 pub mod ProgramAnswer
 pub mod Internal

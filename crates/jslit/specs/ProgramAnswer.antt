@@ -7,7 +7,7 @@ use Rattle.jslit.specs.Answer.{IsAnswerOn, IsCheckStatus, IsFaultOn}
 use Rattle.lit_print.specs.Counted.{device_of, failures_of}
 use Rattle.jslit.specs.InterleavingAnswer.{IsInterleavingOn, IsScheduleFaultOn}
 use Rattle.jslit.specs.RunAnswer.{HasServed}
-use Rattle.jslit.specs.Words.{AsksHelp, AsksRun, AsksVersion, IsRefused, file_in, quick_in, schedule_in}
+use Rattle.lit_words.specs.Words.{AsksHelp, AsksRun, AsksVersion, IsRefused, file_in, quick_in, schedule_in}
 
 -- the answer is the outcome of the schedule where there is one, and else the report
 abbrev pub IsAnswerBy : (quick : Bool) → Option Text → (text answer : List ℕ) → Type 0

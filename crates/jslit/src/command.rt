@@ -1,9 +1,5 @@
 //! The program: what it prints, and its status.
 
-pub(crate) mod asked_line;
-pub(crate) mod version;
-pub(crate) mod words;
-
 ghost use Rattle.std.specs.Prelude.{◌≡◌, ◌≢◌, ◌⊎◌, ◌<◌, ◌^◌, ◌-◌, map, option_map, IfErr, OnOk};
 ghost use Rattle.std.specs.Io.KnownBytes.{Keeps};
 ghost use Rattle.std.specs.IoError.{error_kind};
@@ -16,10 +12,8 @@ ghost use Rattle.jslit.specs.RunAnswer.{HasServed};
 ghost use Rattle.jslit.specs.Internal.Saying.{HasSaid, IsExplained, IsSaid};
 ghost use Rattle.clap.specs.Words.{kind_of};
 
-use crate::command::asked_line::Line;
-use crate::command::words::line;
 use crate::engine::answering::passes;
-use crate::engine::{Options, run_watched};
+use crate::engine::run_watched;
 use crate::fault::RunFault;
 use crate::interleaving::run_schedule;
 use crate::report::refusal_writer::{write_plan_fault, write_read_fault, write_unknown_agent};
@@ -28,6 +22,7 @@ use clap::Error;
 use clap::error::ErrorKind;
 use lit_print::Counted;
 use lit_share::OpenGate;
+use lit_words::{Line, Options, line};
 use std::alloc::Global;
 use std::convert::AsStr;
 use std::io::{Read, Write};

@@ -3,8 +3,7 @@
 pub(crate) mod answering;
 mod cutting;
 
-ghost use Rattle.std.specs.Prelude.{◌≡◌, ◌≤◌, ◌<◌, ◌^◌, ◌-◌, length};
-ghost use Rattle.lit_share.specs.declared.limits.TheConstants.{CUT_LIMIT, WORKER_LIMIT};
+ghost use Rattle.std.specs.Prelude.{◌≡◌, ◌<◌, ◌^◌, ◌-◌, length};
 ghost use Rattle.jslit.specs.Answer.{IsAnswerOn, IsFaultOn};
 ghost use Rattle.lit_print.specs.Counted.{failures_of};
 ghost use Rattle.jslit.specs.RunAnswer.{HasRun};
@@ -15,25 +14,10 @@ use crate::reading::read_text;
 use crate::watch::Watch;
 use lit_print::Counted;
 use lit_share::OpenGate;
+use lit_words::Options;
 use std::alloc::Global;
 use std::io::{Read, Write};
 use std::thread::Threads;
-
-/// How the work is done, and which report the caller wants. Neither the number of workers nor the cutting changes the answer.
-#[derive(Clone, Copy, Debug, PartialEq, Eq)]
-pub struct Options {
-    /// How many workers search: 1 to `WORKER_LIMIT` of `lit_share`, 16.
-    pub workers: usize,
-    /// How many choices a piece of the work has at the least: 1 to `CUT_LIMIT` of `lit_share`, 2^48. A worker alone has one
-    /// piece; several have at most 16 or 64, or 256 where each piece has its own sources of observed bytes (decision 63).
-    pub cut: u64,
-    /// Whether the report is the quick one: of each class of outcomes the first choice alone.
-    pub quick: bool,
-    ghost some_workers: { 0 < workers },
-    ghost few_workers: { workers ≤ WORKER_LIMIT },
-    ghost some_cut: { 0 < cut },
-    ghost small_cut: { cut ≤ CUT_LIMIT },
-}
 
 /// Reads a litmus text, to the end of the input or to one byte more than a text may have, and writes the report on its
 /// test once it is known. Neither count of failures stands at `u64::MAX` before.

@@ -3,9 +3,9 @@
 //! `run` reads a litmus text from a reader and writes its report to a writer: its contract is the theorem of this
 //! repository, from the bytes in to the bytes out. `run_schedule` carries a test out step by step, in turns that the caller
 //! names. `program` is the program around both. The definitions stand in specs/: `Answer` (what a run answers for a text),
-//! `InterleavingAnswer`, `Schedule`, `ReportText` (`lit_print` has the text of an entry), `Verdict`, `Devices`, `Words` (what
-//! the words of the command line ask for) and `ProgramAnswer`; those in `Internal` serve private contracts, and say how a
-//! fault of a lower crate becomes one of a run.
+//! `InterleavingAnswer`, `Schedule`, `ReportText` (`lit_print` has the text of an entry), `Verdict`, `Devices` and
+//! `ProgramAnswer` (`lit_words` has what the words of the command line ask for); those in `Internal` serve private contracts,
+//! and say how a fault of a lower crate becomes one of a run.
 #![tactic(auto)]
 
 mod command;
@@ -19,13 +19,11 @@ mod report;
 mod verdict;
 mod watch;
 
-pub use command::asked_line::Line;
-pub use command::version::VERSION;
-pub use command::words::line;
 pub use command::{check, check_schedule, check_watched, no_words, program, program_watched};
-pub use engine::{Options, run, run_watched};
+pub use engine::{run, run_watched};
 pub use fault::RunFault;
 pub use interleaving::run_schedule;
 pub use lit_print::Counted;
+pub use lit_words::{Line, Options, VERSION, line};
 pub use progress::Progress;
 pub use watch::Watch;

@@ -7,7 +7,7 @@ TOP = pathlib.Path(__file__).resolve().parent.parent.parent.parent
 JSLIT, WHY = TOP / "bin" / "jslit", TOP / "bin" / "jslit-why"
 INSTALLED, MADE = TOP / "libexec" / "jslit", TOP / "crates" / "jslit_cli" / "out" / "jslit_cli"
 WHY_INSTALLED, WHY_MADE = TOP / "libexec" / "jslit-why", TOP / "crates" / "jslit_why" / "out" / "jslit_why"
-SOURCE = TOP / "crates" / "jslit" / "src" / "command" / "version.rt"
+SOURCE = TOP / "crates" / "lit_words" / "src" / "version.rt"
 
 
 def version():

@@ -8,7 +8,6 @@ ghost use Rattle.jslit.specs.Answer.{IsFaultOn, HasReported, HasBegun};
 ghost use Rattle.lit_print.specs.Counted.{device_of, failures_of, one_more};
 ghost use Rattle.jslit.specs.Internal.Answering.{HasWritten, HasWrittenSome, IsFirstFound, IsOfWriting, IsOfTextOrWriting};
 
-use crate::engine::Options;
 use crate::engine::cutting::{cut_for_outcomes, cut_of};
 use crate::fault::RunFault;
 use crate::laws::reports_are_complete;
@@ -22,6 +21,7 @@ use lit_read::read;
 use lit_search::laws::choices_have_one_outcome;
 use lit_search::{Class, Example, Found, search_range};
 use lit_share::{quick, search};
+use lit_words::Options;
 use std::alloc::{AllocError, Global};
 use std::io::Write;
 use std::thread::Threads;

@@ -1,7 +1,6 @@
-use Rattle.std.proofs.Common.{◌<◌, List, length, take, sym, arith}
+use Rattle.std.proofs.Common.{sym, arith}
 use Rattle.std.proofs.lemmas.Grind.{common_steps}
 use Rattle.std.proofs.lemmas.List.{length-take}
-use Rattle.jslit.specs.declared.report.pages.Page.{Page}
 use Rattle.jslit.proofs.Pages.{page_none, page_whole, pages_joined}
 use Rattle.lit_print.proofs.Putting.{HasPut-is, HasPut-nothing, HasPut-then}
 use Rattle.jslit.proofs.report.pages.put_pages.Goals as goal

@@ -1,8 +1,8 @@
 use Rattle.std.proofs.Common.{◌≡◌, ◌∙◌, ◌||◌, codes, Bool, true, false, refl}
 use Rattle.clap.specs.Words.{found_of}
 use Rattle.clap.proofs.WalkLemmas.{first_value-rows}
-use Rattle.jslit.proofs.AskedLines.{some_of}
-use Rattle.jslit.proofs.command.words.report_flag.Goals as goal
+use Rattle.lit_words.proofs.AskedLines.{some_of}
+use Rattle.lit_words.proofs.words.report_flag.Goals as goal
 
 first_is : (w rest : Bool) → true ≡ w → true ≡ (w || rest)
 first_is w rest is = rw (← is) refl

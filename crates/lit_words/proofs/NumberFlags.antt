@@ -21,7 +21,7 @@ use Rattle.clap.specs.declared.builder.value_parser.Reading.TheVariants as readi
 use Rattle.clap.specs.declared.parser.matches.ArgMatches.{ArgMatches}
 use Rattle.clap.specs.declared.parser.matches.MatchedArg.{MatchedArg}
 use Rattle.clap.proofs.CallerLemmas.{entry_by_id, same_rules_by_id}
-use Rattle.jslit.specs.Internal.Command.{ReadsNumber, TakesNumber}
+use Rattle.lit_words.specs.Internal.Command.{ReadsNumber, TakesNumber}
 
 -- the arguments of before stand where they stood, and the one added stands behind them
 at_left : (old new : Command) (a : Arg) (added : AddsArg old a new) (j : ℕ) (none : Arg) → j < length (args_of old)

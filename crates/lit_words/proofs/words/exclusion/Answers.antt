@@ -1,8 +1,8 @@
 use Rattle.std.proofs.Common.{◌≡◌, ◌∙◌, ◌&&◌, codes, Bool, true, false, refl}
 use Rattle.clap.specs.Words.{found_of}
 use Rattle.clap.proofs.WalkLemmas.{first_value-rows}
-use Rattle.jslit.proofs.AskedLines.{some_of}
-use Rattle.jslit.proofs.command.words.exclusion.Goals as goal
+use Rattle.lit_words.proofs.AskedLines.{some_of}
+use Rattle.lit_words.proofs.words.exclusion.Goals as goal
 
 with_schedule : (s r b : Bool) → true ≡ s → b ≡ r → b ≡ (s && r)
 with_schedule s r b some is = rw (← some) is

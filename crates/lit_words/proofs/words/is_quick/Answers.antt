@@ -5,7 +5,7 @@ use Rattle.std.specs.Borrow.{Bor}
 use Rattle.std.specs.contracts.prelude.RefStrPartialEq.TheImpl.{eq-value}
 use Rattle.clap.specs.Words.{found_of}
 use Rattle.clap.proofs.WalkLemmas.{first_value-rows}
-use Rattle.jslit.proofs.command.words.is_quick.Goals as goal
+use Rattle.lit_words.proofs.words.is_quick.Goals as goal
 
 is_text : (read : Option (Bor (List ℕ))) (text : Option (List ℕ)) (other : Bor (List ℕ)) → option_map (λ s. s.now) read ≡ text
     → option_eq eq-value.it read (Some other) ≡ option_map_or (λ t. bytes_eq t other.now) text false

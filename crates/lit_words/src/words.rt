@@ -2,18 +2,18 @@
 
 ghost use Rattle.std.specs.Prelude.{◌≡◌, [], false, map, is_some, IfOk, IfErr, codes};
 ghost use Rattle.clap.specs.Words.{HasKind, app_of, found_of, kind_of, rows_of, rule_of};
-ghost use Rattle.jslit.specs.Internal.Command.{IsCommand, ReadsNumber};
-ghost use Rattle.jslit.specs.Words.{bare_flag, faults_of, is_excluded, is_quick as quick_of, jslit_command};
-ghost use Rattle.jslit.specs.Words.{names_report, number_flag, valued_flag, IsAsked};
-ghost use Rattle.jslit.specs.Words.{file_argument as file_rule};
-ghost use Rattle.lit_share.specs.declared.limits.TheConstants.{CUT_LIMIT as CUTS, WORKER_LIMIT as WORKERS};
+ghost use Rattle.lit_words.specs.Internal.Command.{IsCommand, ReadsNumber};
+ghost use Rattle.lit_words.specs.Words.{bare_flag, faults_of, is_excluded, is_quick as quick_of, jslit_command};
+ghost use Rattle.lit_words.specs.Words.{names_report, number_flag, valued_flag, IsAsked};
+ghost use Rattle.lit_words.specs.Words.{file_argument as file_rule};
 
-use crate::command::asked_line::Line;
-use crate::command::version::VERSION;
-use crate::engine::Options;
+use crate::asked_line::Line;
+use crate::options::Options;
+use crate::version::VERSION;
 use clap::error::ErrorKind;
 use clap::{Arg, ArgAction, ArgMatches, Command, Error, value_parser};
-use lit_share::{CUT_LIMIT, WORKER_LIMIT};
+use lit_desk::MOST_SEATS;
+use lit_paths::CHOICE_LIMIT;
 use std::alloc::{AllocError, Global};
 use std::convert::AsStr;
 
@@ -38,31 +38,31 @@ Example:
 
 /// The flag for the number of workers.
 fn workers_flag<'a>(alloc: Global) -> Arg<'a>
-    ensures reads { ReadsNumber result (codes "workers") 1 WORKERS }
+    ensures reads { ReadsNumber result (codes "workers") 1 MOST_SEATS }
     ensures ungrouped { result.groups.items ≡ [] }
     ensures local { result.global ≡ false }
-    ensures rule { rule_of result ≡ number_flag (codes "workers") WORKERS }
+    ensures rule { rule_of result ≡ number_flag (codes "workers") MOST_SEATS }
 {
     Arg::new(alloc, "workers")
         .long("workers")
         .value_name("N")
         .action(ArgAction::Set)
-        .value_parser(value_parser!(usize).range(1..=WORKER_LIMIT as i64))
+        .value_parser(value_parser!(usize).range(1..=MOST_SEATS as i64))
         .help("How many workers search, 1 to 16 [default: 1]")
 }
 
 /// The flag for the cutting.
 fn cut_flag<'a>(alloc: Global) -> Arg<'a>
-    ensures reads { ReadsNumber result (codes "cut") 1 CUTS }
+    ensures reads { ReadsNumber result (codes "cut") 1 CHOICE_LIMIT }
     ensures ungrouped { result.groups.items ≡ [] }
     ensures local { result.global ≡ false }
-    ensures rule { rule_of result ≡ number_flag (codes "cut") CUTS }
+    ensures rule { rule_of result ≡ number_flag (codes "cut") CHOICE_LIMIT }
 {
     Arg::new(alloc, "cut")
         .long("cut")
         .value_name("N")
         .action(ArgAction::Set)
-        .value_parser(value_parser!(u64).range(1..=CUT_LIMIT as i64))
+        .value_parser(value_parser!(u64).range(1..=CHOICE_LIMIT as i64))
         .help("The fewest choices in a piece of the work, 1 to 281474976710656 [default: 4096]")
 }
 

@@ -9,7 +9,7 @@ use Rattle.clap.specs.declared.error.Error.{Error}
 use Rattle.clap.specs.declared.error.kind.ErrorKind.{ErrorKind}
 use Rattle.clap.specs.declared.error.kind.ErrorKind.TheVariants as kinds
 use Rattle.clap.specs.declared.parser.matches.ArgMatches.{ArgMatches}
-use Rattle.jslit.specs.Words.{faults_of, is_excluded, jslit_command}
+use Rattle.lit_words.specs.Words.{faults_of, is_excluded, jslit_command}
 
 -- what is among the first kinds is among those and others
 among_first : (k : ErrorKind) (first next : Kinds) → IsAmong k first → IsAmong k (or_else first next)

@@ -2,7 +2,8 @@
 use Rattle.std.specs.Prelude.{◌≡◌, ◌<◌, ℕ, List, [], Some, true, false, length, codes}
 use Rattle.std.specs.List.{slice_index_or}
 use Rattle.std.specs.Str.{bytes_eq}
-use Rattle.lit_share.specs.declared.limits.TheConstants.{CUT_LIMIT, WORKER_LIMIT}
+use Rattle.lit_desk.specs.declared.limits.TheConstants.{MOST_SEATS}
+use Rattle.lit_paths.specs.declared.limits.TheConstants.{CHOICE_LIMIT}
 use Rattle.clap.specs.Words.{args_of, groups_of}
 use Rattle.clap.specs.Built.{NamesNoGroup}
 use Rattle.clap.specs.declared.builder.arg.Arg.{Arg}
@@ -28,5 +29,5 @@ pub record IsCommand (command : Command) : Type 0 where
   pub no_groups : groups_of command ≡ []
   pub ungrouped : NamesNoGroup command
   pub local : (out-Command command).has_globals ≡ false
-  pub workers : TakesNumber command (codes "workers") 1 WORKER_LIMIT
-  pub cut : TakesNumber command (codes "cut") 1 CUT_LIMIT
+  pub workers : TakesNumber command (codes "workers") 1 MOST_SEATS
+  pub cut : TakesNumber command (codes "cut") 1 CHOICE_LIMIT

@@ -2,10 +2,11 @@ use Rattle.std.proofs.Common.{◌≡◌, ◌∙◌, ℕ, List, [], false, refl, 
 use Rattle.std.specs.Str.{bytes_eq}
 use Rattle.clap.specs.Words.{args_of, groups_of, with_rule}
 use Rattle.clap.specs.Simple.{app_of_fields}
-use Rattle.lit_share.specs.declared.limits.TheConstants.{CUT_LIMIT, WORKER_LIMIT}
-use Rattle.jslit.specs.Words.{with_version}
-use Rattle.jslit.proofs.NumberFlags.{added_local, added_none, added_number, added_other, added_ungrouped, none_at_first, none_ungrouped}
-use Rattle.jslit.proofs.command.words.command.Goals as goal
+use Rattle.lit_desk.specs.declared.limits.TheConstants.{MOST_SEATS}
+use Rattle.lit_paths.specs.declared.limits.TheConstants.{CHOICE_LIMIT}
+use Rattle.lit_words.specs.Words.{with_version}
+use Rattle.lit_words.proofs.NumberFlags.{added_local, added_none, added_number, added_other, added_ungrouped, none_at_first, none_ungrouped}
+use Rattle.lit_words.proofs.words.command.Goals as goal
 
 other_name : (id name other : List ℕ) → id ≡ name → bytes_eq name other ≡ false → bytes_eq id other ≡ false
 other_name id name other is differs = rw is differs
@@ -29,16 +30,16 @@ returns-clause-numbers c =
           added_local _ _ _ fifth (added_local _ _ _ fourth (added_local _ _ _ third (added_local _ _ _ second (added_local _ _ _ first no_globals c.workers_flag.ensures.local)
           c.cut_flag.ensures.local) c.quick_flag.ensures.local) c.schedule_flag.ensures.local) c.file_argument.ensures.local;
       workers =
-          added_other _ _ _ (codes "workers") 1 WORKER_LIMIT fifth (other_name _ (codes "file") (codes "workers") c.file_argument.ensures.id refl)
-          (added_other _ _ _ (codes "workers") 1 WORKER_LIMIT fourth (other_name _ (codes "schedule") (codes "workers") c.schedule_flag.ensures.id refl)
-          (added_other _ _ _ (codes "workers") 1 WORKER_LIMIT third (other_name _ (codes "quick") (codes "workers") c.quick_flag.ensures.id refl)
-          (added_other _ _ _ (codes "workers") 1 WORKER_LIMIT second (other_name _ (codes "cut") (codes "workers") c.cut_flag.ensures.reads.id refl)
-          (added_number _ _ _ (codes "workers") 1 WORKER_LIMIT first c.workers_flag.ensures.reads (none_at_first _ (codes "workers") no_arguments)))));
+          added_other _ _ _ (codes "workers") 1 MOST_SEATS fifth (other_name _ (codes "file") (codes "workers") c.file_argument.ensures.id refl)
+          (added_other _ _ _ (codes "workers") 1 MOST_SEATS fourth (other_name _ (codes "schedule") (codes "workers") c.schedule_flag.ensures.id refl)
+          (added_other _ _ _ (codes "workers") 1 MOST_SEATS third (other_name _ (codes "quick") (codes "workers") c.quick_flag.ensures.id refl)
+          (added_other _ _ _ (codes "workers") 1 MOST_SEATS second (other_name _ (codes "cut") (codes "workers") c.cut_flag.ensures.reads.id refl)
+          (added_number _ _ _ (codes "workers") 1 MOST_SEATS first c.workers_flag.ensures.reads (none_at_first _ (codes "workers") no_arguments)))));
       cut =
-          added_other _ _ _ (codes "cut") 1 CUT_LIMIT fifth (other_name _ (codes "file") (codes "cut") c.file_argument.ensures.id refl)
-          (added_other _ _ _ (codes "cut") 1 CUT_LIMIT fourth (other_name _ (codes "schedule") (codes "cut") c.schedule_flag.ensures.id refl)
-          (added_other _ _ _ (codes "cut") 1 CUT_LIMIT third (other_name _ (codes "quick") (codes "cut") c.quick_flag.ensures.id refl)
-          (added_number _ _ _ (codes "cut") 1 CUT_LIMIT second c.cut_flag.ensures.reads
+          added_other _ _ _ (codes "cut") 1 CHOICE_LIMIT fifth (other_name _ (codes "file") (codes "cut") c.file_argument.ensures.id refl)
+          (added_other _ _ _ (codes "cut") 1 CHOICE_LIMIT fourth (other_name _ (codes "schedule") (codes "cut") c.schedule_flag.ensures.id refl)
+          (added_other _ _ _ (codes "cut") 1 CHOICE_LIMIT third (other_name _ (codes "quick") (codes "cut") c.quick_flag.ensures.id refl)
+          (added_number _ _ _ (codes "cut") 1 CHOICE_LIMIT second c.cut_flag.ensures.reads
           (added_none _ _ _ (codes "cut") first (other_name _ (codes "workers") (codes "cut") c.workers_flag.ensures.reads.id refl) (none_at_first _ (codes "cut") no_arguments)))));
     }
 

@@ -10,8 +10,9 @@ use Rattle.clap.specs.declared.builder.action.ArgAction.TheVariants.{Set, SetTru
 use Rattle.clap.specs.declared.builder.value_parser.ValueParser.TheVariants as parsers
 use Rattle.clap.specs.declared.error.kind.ErrorKind.{ErrorKind}
 use Rattle.clap.specs.declared.error.kind.ErrorKind.TheVariants as kinds
-use Rattle.lit_share.specs.declared.limits.TheConstants.{CUT_LIMIT, WORKER_LIMIT}
-use Rattle.jslit.specs.declared.command.asked_line.Line.{Line}
+use Rattle.lit_desk.specs.declared.limits.TheConstants.{MOST_SEATS}
+use Rattle.lit_paths.specs.declared.limits.TheConstants.{CHOICE_LIMIT}
+use Rattle.lit_words.specs.declared.asked_line.Line.{Line}
 
 -- a flag with a value, a flag with none, and the file
 abbrev pub valued_flag : Text → Rule
@@ -33,7 +34,7 @@ with_version a = on_top (λ s. record s { has_version = true }) a
 abbrev pub jslit_command : App
 jslit_command =
     with_rule (with_rule (with_rule (with_rule (with_rule (with_version (new_app (codes "jslit")))
-    (number_flag (codes "workers") WORKER_LIMIT)) (number_flag (codes "cut") CUT_LIMIT)) (bare_flag (codes "quick")))
+    (number_flag (codes "workers") MOST_SEATS)) (number_flag (codes "cut") CHOICE_LIMIT)) (bare_flag (codes "quick")))
     (valued_flag (codes "schedule"))) file_argument
 
 -- whether the flags that were read ask for the quick report, and whether one of them is a flag of a report

@@ -1,6 +1,6 @@
 //! What the words of the command line ask for.
 
-use crate::engine::Options;
+use crate::options::Options;
 
 /// What the words of the command line ask for.
 #[derive(Clone, Copy, Debug, PartialEq, Eq)]

@@ -1,0 +1,2 @@
+pub mod NumberFlags
+pub mod AskedLines

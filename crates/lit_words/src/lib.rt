@@ -1,0 +1,17 @@
+//! The words of the command line: what they ask for, read by `clap`.
+//!
+//! `line` reads them into a `Line`: the `Options` of a run, a schedule, and the file of the text; or it gives the error that
+//! `clap` prints in place of a run. It knows nothing of the search, whose limits it takes from `lit_desk` and `lit_paths`.
+//! The definitions stand in specs/`Words`: they say by the command's own definition what the words ask for, and what they
+//! are refused for. `VERSION` stands here too, since `--version` prints it.
+#![tactic(auto)]
+
+mod asked_line;
+mod options;
+mod version;
+mod words;
+
+pub use asked_line::Line;
+pub use options::Options;
+pub use version::VERSION;
+pub use words::line;
