@@ -1,7 +1,5 @@
 mod Statuses
-pub mod EntryFacts
 pub mod Lines
-pub mod Pages
 pub mod Judging
 pub mod Refusals
 pub mod Completeness

@@ -26,7 +26,7 @@ use Rattle.jslit.specs.Internal.Answering.{HasWritten, HasWrittenSome, IsFirstFo
 use Rattle.jslit.specs.Internal.FirstEntry.{entry_of_option}
 use Rattle.jslit.proofs.QuickAnswers.{quick_judged}
 use Rattle.jslit.proofs.Refusals.{on_err}
-use Rattle.jslit.proofs.EntryFacts.{among_all}
+use Rattle.lit_pages.proofs.EntryFacts.{among_all}
 
 abbrev OneOutcome : Type 0
 OneOutcome = (t : Litmus) (n : ℕ) (some other : List ℕ) → IsLitmus t → Gives t n some → Gives t n other → some ≡ other

@@ -4,6 +4,5 @@ pub mod Reading
 pub mod FirstEntry
 pub mod Answering
 pub mod Judging
-pub mod Pages
 pub mod Saying
 pub mod Scheduling

@@ -1,8 +1,5 @@
 //! Writes reports and refusals.
 
-pub(crate) mod entries;
-pub(crate) mod memory;
-pub(crate) mod pages;
 pub(crate) mod refusal_writer;
 pub(crate) mod report_writer;
 

@@ -11,10 +11,10 @@ ghost use Rattle.jslit.specs.Internal.Answering.{HasWritten, HasWrittenSome, IsF
 use crate::engine::cutting::{cut_for_outcomes, cut_of};
 use crate::fault::RunFault;
 use crate::laws::reports_are_complete;
-use crate::report::pages::pages_for;
 use crate::report::report_writer::{write_quick_report, write_report};
 use crate::verdict::{verdict_from, verdict_on};
 use crate::watch::Watch;
+use lit_pages::pages_for;
 use lit_paths::{Plan, plan};
 use lit_print::Counted;
 use lit_read::read;

@@ -12,8 +12,8 @@ ghost use Rattle.jslit.specs.Internal.FirstEntry.{IsOnlyEntry, entry_of_option};
 
 use crate::fault::RunFault;
 use crate::report::finish;
-use crate::report::pages::{Page, put_pages};
 use crate::verdict::Verdict;
+use lit_pages::{Page, put_pages};
 use lit_paths::Plan;
 use lit_print::{Buffer, Counted, EntryCache, put_entry};
 use lit_search::Found;

@@ -2,10 +2,10 @@ use Rattle.std.proofs.Common.{◌≡◌, ℕ, ◌<◌, length, refl, ap, arith}
 use Rattle.lit_syntax.specs.Syntax.{Litmus}
 use Rattle.lit_paths.specs.Choice.{choices_of}
 use Rattle.lit_search.specs.Report.{Entry, entry_at}
-use Rattle.jslit.proofs.EntryFacts.{entry_in, among_all}
-use Rattle.jslit.proofs.Pages.{page_more, page_none}
+use Rattle.lit_pages.proofs.EntryFacts.{entry_in, among_all}
+use Rattle.lit_pages.proofs.PageTexts.{page_more, page_none}
 use Rattle.lit_print.proofs.Putting.{puts_end, puts_more, puts_start}
-use Rattle.jslit.proofs.report.entries.put_entries.Goals as goal
+use Rattle.lit_pages.proofs.entries.put_entries.Goals as goal
 
 pub loop-place-init : goal.loop-place-init
 loop-place-init g c = record { entered = ap (λ (e : Litmus × ℕ). e.0) c.enter-combination.ensures; example = c.example_at-choice.ensures; cache = c.new-cache.ensures _ _; so_far = puts_start _ _ }

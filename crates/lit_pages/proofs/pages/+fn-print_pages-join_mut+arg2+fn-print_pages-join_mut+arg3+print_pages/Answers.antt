@@ -1,7 +1,7 @@
 use Rattle.std.proofs.Common.{All, rules}
 use Rattle.std.proofs.lemmas.List.Elements.{All-append}
-use Rattle.jslit.specs.Internal.Pages.{IsPage}
-use Rattle.jslit.proofs.report.pages.+fn-print_pages-join_mut+arg2+fn-print_pages-join_mut+arg3+print_pages.Goals as goal
+use Rattle.lit_pages.specs.Internal.Pages.{IsPage}
+use Rattle.lit_pages.proofs.pages.+fn-print_pages-join_mut+arg2+fn-print_pages-join_mut+arg3+print_pages.Goals as goal
 
 pub returns : goal.returns
 returns g t c =

@@ -7,7 +7,7 @@ use Rattle.std.proofs.lemmas.List.{drop_more, drop-drop, take_all}
 use Rattle.lit_syntax.specs.Syntax.{Litmus}
 use Rattle.lit_search.specs.Report.{Entry, Report, entry_at}
 use Rattle.lit_print.specs.EntryText.{entry_text}
-use Rattle.jslit.specs.Internal.Pages.{page_text}
+use Rattle.lit_pages.specs.Internal.Pages.{page_text}
 
 module _ (t : Litmus) (report : Report) where
   -- the text of so many entries from a place on

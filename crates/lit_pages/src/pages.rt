@@ -7,10 +7,10 @@ ghost use Rattle.lit_paths.specs.Choice.{choices_of};
 ghost use Rattle.lit_search.specs.Report.{IsReport, in_range};
 ghost use Rattle.lit_print.specs.EntryText.{entry_text};
 ghost use Rattle.lit_print.specs.Writing.{HasPutOn};
-ghost use Rattle.jslit.specs.Internal.Pages.{IsPage, page_text};
+ghost use Rattle.lit_pages.specs.Internal.Pages.{IsPage, page_text};
 
-use crate::report::entries::put_entries;
-use crate::report::memory::Memory;
+use crate::entries::put_entries;
+use crate::memory::Memory;
 use lit_paths::Plan;
 use lit_print::{Buffer, Counted};
 use lit_search::Found;
@@ -24,7 +24,7 @@ const PAGE_LIMIT: usize = 16_384;
 
 /// A page: the text of the entries from one place up to another.
 #[derive(Drop)]
-pub(crate) struct Page {
+pub struct Page {
     first: usize,
     end: usize,
     text: Vec<u8>,
@@ -41,11 +41,7 @@ fn pages_of(entries: usize) -> usize
 
 /// The empty pages for a report with so many entries: none where a page would hold the report or a worker is alone, else one for
 /// each worker, but no more than the report needs.
-pub(crate) fn pages_for(
-    alloc: Global,
-    entries: usize,
-    workers: usize,
-) -> Result<Vec<Page>, AllocError> {
+pub fn pages_for(alloc: Global, entries: usize, workers: usize) -> Result<Vec<Page>, AllocError> {
     let mut pages = Vec::new(alloc);
     let count = workers.min(pages_of(entries));
     if count > 1 {
@@ -167,7 +163,7 @@ fn put_printed<W: Write>(
 }
 
 /// Puts an outcome and its example for each entry of a report, page by page if there are pages.
-pub(crate) fn put_pages<T: Threads + Sync, W: Write>(
+pub fn put_pages<T: Threads + Sync, W: Write>(
     rt: &T,
     alloc: Global,
     buffer: &mut Buffer,

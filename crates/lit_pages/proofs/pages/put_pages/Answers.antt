@@ -1,9 +1,9 @@
 use Rattle.std.proofs.Common.{sym, arith}
 use Rattle.std.proofs.lemmas.Grind.{common_steps}
 use Rattle.std.proofs.lemmas.List.{length-take}
-use Rattle.jslit.proofs.Pages.{page_none, page_whole, pages_joined}
+use Rattle.lit_pages.proofs.PageTexts.{page_none, page_whole, pages_joined}
 use Rattle.lit_print.proofs.Putting.{HasPut-is, HasPut-nothing, HasPut-then}
-use Rattle.jslit.proofs.report.pages.put_pages.Goals as goal
+use Rattle.lit_pages.proofs.pages.put_pages.Goals as goal
 
 pub returns-then-is_empty : goal.returns-then-is_empty
 returns-then-is_empty g c = HasPut-is _ _ _ _ c.put_entries.ensures (page_whole c.args.plan.now c.args.found.now c.len.result c.len.ensures)

@@ -4,7 +4,7 @@ ghost use Rattle.std.specs.Prelude.{◌≡◌, ◌<◌, ◌≤◌, length};
 ghost use Rattle.lit_paths.specs.Choice.{choices_of};
 ghost use Rattle.lit_search.specs.Report.{IsReport, entry_at, in_range};
 ghost use Rattle.lit_print.specs.Writing.{HasPutOn};
-ghost use Rattle.jslit.specs.Internal.Pages.{page_text};
+ghost use Rattle.lit_pages.specs.Internal.Pages.{page_text};
 
 use lit_paths::Plan;
 use lit_print::{Buffer, Counted, EntryCache, put_entry};

@@ -1,8 +1,8 @@
 use Rattle.std.proofs.Common.{◌≤◌, sym, arith}
 use Rattle.std.proofs.lemmas.Bool.{cases_lt}
-use Rattle.jslit.proofs.Pages.{page_none, pages_joined}
+use Rattle.lit_pages.proofs.PageTexts.{page_none, pages_joined}
 use Rattle.lit_print.proofs.Putting.{HasPut-is, HasPut-nothing, HasPut-then}
-use Rattle.jslit.proofs.report.pages.put_printed.Goals as goal
+use Rattle.lit_pages.proofs.pages.put_printed.Goals as goal
 
 pub loop-index-init : goal.loop-index-init
 loop-index-init g c = record {

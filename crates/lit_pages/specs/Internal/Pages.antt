@@ -3,7 +3,7 @@ use Rattle.std.specs.Prelude.{◌≡◌, ◌-◌, true, List, ℕ, take, drop}
 use Rattle.std.specs.List.{flat_map}
 use Rattle.lit_syntax.specs.Syntax.{Litmus}
 use Rattle.lit_search.specs.Report.{Report}
-use Rattle.jslit.specs.declared.report.pages.Page.{Page}
+use Rattle.lit_pages.specs.declared.pages.Page.{Page}
 use Rattle.lit_print.specs.EntryText.{entry_text}
 
 -- the text of the entries from one place up to another

@@ -1,5 +1,5 @@
 use Rattle.std.proofs.Common.{length}
-use Rattle.jslit.proofs.report.pages.+fn-print_pages-join_mut+arg2+fn-print_pages-join_mut+arg3+print_pages.Given as goal
+use Rattle.lit_pages.proofs.pages.+fn-print_pages-join_mut+arg2+fn-print_pages-join_mut+arg3+print_pages.Given as goal
 
 abbrev pub decreases-join_mut+arg2 : goal.decreases-join_mut+arg2
 decreases-join_mut+arg2 g l = length l.front.now

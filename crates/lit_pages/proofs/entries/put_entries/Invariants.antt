@@ -1,10 +1,10 @@
 use Rattle.std.proofs.Common.{◌≡◌, ◌<◌, length}
 use Rattle.lit_search.specs.Report.{entry_at}
-use Rattle.jslit.specs.Internal.Pages.{page_text}
+use Rattle.lit_pages.specs.Internal.Pages.{page_text}
 use Rattle.lit_print.specs.EntryCache.{IsCacheOf}
 use Rattle.lit_print.specs.Writing.{writing_of}
 use Rattle.lit_print.proofs.Putting.{PutsOf}
-use Rattle.jslit.proofs.report.entries.put_entries.Given as goal
+use Rattle.lit_pages.proofs.entries.put_entries.Given as goal
 
 abbrev pub invariant-loop-place : goal.invariant-loop-place
 invariant-loop-place g l = record {

@@ -1,7 +1,7 @@
 use Rattle.std.proofs.Common.{◌-◌, ◌≤◌, length}
-use Rattle.jslit.specs.Internal.Pages.{page_text}
+use Rattle.lit_pages.specs.Internal.Pages.{page_text}
 use Rattle.lit_print.specs.Writing.{HasPut, writing_of}
-use Rattle.jslit.proofs.report.pages.put_pages.Given as goal
+use Rattle.lit_pages.proofs.pages.put_pages.Given as goal
 
 abbrev pub invariant-loop-place : goal.invariant-loop-place
 invariant-loop-place g l = record {

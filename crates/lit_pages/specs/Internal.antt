@@ -1,0 +1,2 @@
+-- Notions of the contracts of private functions.
+pub mod Pages
