@@ -4,7 +4,7 @@ use Rattle.std.specs.declared.result.Result.{Result}
 use Rattle.std.specs.Io.KnownBytes.{Keeps}
 use Rattle.std.proofs.lemmas.Bool.{cases_lt}
 use Rattle.std.proofs.KnownBytes.{Appends-kept}
-use Rattle.jslit.specs.Answer.{HasGrown, HasGrownSome, HasGrownRefusal, status_of}
+use Rattle.jslit.specs.Answer.{HasGrown, HasGrownSome, HasGrownRefusal, IsCheckStatus, status_of}
 use Rattle.lit_print.specs.Counted.{device_of, failures_of}
 use Rattle.jslit.specs.Devices.{OfToldText}
 use Rattle.jslit.specs.RunAnswer.{HasRun, HasServed}
@@ -12,7 +12,7 @@ use Rattle.jslit.specs.Internal.Saying.{HasSaid, IsSaid}
 use Rattle.lit_print.specs.declared.counted.Counted.{Counted}
 use Rattle.jslit.specs.declared.fault.RunFault.{RunFault}
 use Rattle.jslit.specs.declared.fault.RunFault.TheVariants as faults
-use Rattle.jslit.proofs.Statuses.{failed_device, never_zero, refusal_of_text, whole_is_beginning}
+use Rattle.jslit.proofs.Statuses.{check_status_of, failed_device, never_zero, refusal_of_text, whole_is_beginning}
 
 -- A run of this kind of answers and faults took the output from old to mid, and finishing it from there to new.
 module _ {W : Type 0} (contents : W → Option (List ℕ)) (remaining : Option (List ℕ)) (Is : List ℕ → List ℕ → Type 0) (IsFault : List ℕ → RunFault → Type 0) (old mid new : Counted W) (status : ℕ) where
@@ -117,7 +117,8 @@ module _ {W : Type 0} (contents : W → Option (List ℕ)) (remaining : Option (
 pub finished : {R W X : Type 0} (remaining : R → Option (List ℕ)) (contents : W → Option (List ℕ)) (Is : List ℕ → List ℕ → Type 0) (IsFault : List ℕ → RunFault → Type 0)
     (ran : Result X RunFault) (old_input new_input : Counted R) (old mid new : Counted W) (status : ℕ)
     → HasRun remaining contents Is IsFault ran old_input new_input old mid → OnOk ran (failures_of new ≡ failures_of mid)
-    → OnOk ran (((status ≡ 0) ⊎ (status ≡ 4)) × Keeps (contents (device_of mid)) (contents (device_of new))) → IfErr ran (IsSaid contents status mid new)
+    → OnOk ran (((status ≡ 0) ⊎ (status ≡ 4)) × Keeps (contents (device_of mid)) (contents (device_of new)))
+    → IfErr ran (IsSaid contents status mid new)
     → HasServed contents (remaining (device_of old_input)) (failures_of old_input < failures_of new_input) Is IsFault status old new
 finished remaining contents Is IsFault ran old_input new_input old mid new status run counted flushed said =
     let told = remaining (device_of old_input) in record {
@@ -142,3 +143,32 @@ nothing_served contents told input_failed Is IsFault status old new is unfailed 
   begun = λ four. absurd (omega (arith, is, four));
   unwritten = λ failed. absurd (unfailed failed);
 }
+
+-- a run that is finished has a status of checking a text
+pub finished_status : {W X : Type 0} (contents : W → Option (List ℕ)) (ran : Result X RunFault) (mid new : Counted W) (status : ℕ)
+    → OnOk ran (((status ≡ 0) ⊎ (status ≡ 4)) × Keeps (contents (device_of mid)) (contents (device_of new)))
+    → IfErr ran (IsSaid contents status mid new)
+    → IsCheckStatus status
+finished_status contents (Ok u) mid new status flushed said = elim flushed.0 [ inl zero ↦ inl zero | inr four ↦ inr (inr (inr four)) ]
+finished_status contents (Err fault) mid new status flushed said = check_status_of fault status said.status_is
+
+-- where memory ran out, the output is as it was
+pub finished_memory : {W X : Type 0} (contents : W → Option (List ℕ)) (ran : Result X RunFault) (old mid new : Counted W) (status : ℕ)
+    → OnOk ran (((status ≡ 0) ⊎ (status ≡ 4)) × Keeps (contents (device_of mid)) (contents (device_of new)))
+    → IfErr ran (IsSaid contents status mid new)
+    → IfErr ran (λ fault. fault ≢ faults.OutputFailed → mid ≡ old) → status ≡ 3 → new ≡ old
+finished_memory contents (Ok u) old mid new status flushed said unwritten is = elim flushed.0 [
+  | inl zero ↦ absurd (omega (arith, zero, is))
+  | inr four ↦ absurd (omega (arith, four, is))
+]
+finished_memory contents (Err fault) old mid new status flushed said unwritten is =
+    let three = sym said.status_is ∙ is in
+    said.unchanged (λ one. absurd (omega (arith, is, one))) ∙ unwritten (λ output. absurd (omega (arith, three, ap status_of output)))
+
+-- a refusal still has room to be counted
+pub room_left : {W X : Type 0} (ran : Result X RunFault) (old mid : Counted W) (limit : ℕ)
+    → IfErr ran (λ fault. fault ≢ faults.OutputFailed → mid ≡ old)
+    → failures_of old < limit → IfErr ran (λ fault. status_of fault ≡ 1 → failures_of mid < limit)
+room_left (Ok u) old mid limit unwritten room = tt
+room_left (Err fault) old mid limit unwritten room =
+    λ refusal. let same = ap failures_of (unwritten (refusal_of_text fault refusal)) in omega (arith, same, room)

@@ -1,11 +1,11 @@
 -- What the program's status says.
-use Rattle.std.proofs.Common.{◌≡◌, ℕ, List, [], Option, refl}
+use Rattle.std.proofs.Common.{◌≡◌, inl, inr, ℕ, List, [], Option, refl}
 use Rattle.std.proofs.lemmas.List.{append-nil}
 use Rattle.std.specs.Io.KnownBytes.{Appends}
 use Rattle.lit_print.specs.Writing.{AppendsBeginning}
 use Rattle.jslit.specs.declared.fault.RunFault.{RunFault}
 use Rattle.jslit.specs.declared.fault.RunFault.TheVariants as faults
-use Rattle.jslit.specs.Answer.{status_of}
+use Rattle.jslit.specs.Answer.{IsCheckStatus, status_of}
 
 -- no fault gives the status of a report
 pub never_zero : (fault : RunFault) → status_of fault ≡ 0 → ⊥
@@ -37,3 +37,12 @@ failed_device faults.OutputFailed A is input output = output refl
 -- all that was written is a beginning of it
 pub whole_is_beginning : (a b : Option (List ℕ)) (bytes : List ℕ) → Appends a b bytes → AppendsBeginning a b bytes
 whole_is_beginning a b bytes grew = record { front = bytes; rest = []; parts = append-nil bytes; appended = grew }
+
+-- each fault has a status of checking a text
+pub check_status_of : (fault : RunFault) (status : ℕ) → status ≡ status_of fault → IsCheckStatus status
+check_status_of (faults.Read f) status is = inr (inl is)
+check_status_of (faults.Plan f) status is = inr (inl is)
+check_status_of faults.UnknownAgent status is = inr (inl is)
+check_status_of faults.OutOfMemory status is = inr (inr (inl is))
+check_status_of faults.InputFailed status is = inr (inr (inr is))
+check_status_of faults.OutputFailed status is = inr (inr (inr is))

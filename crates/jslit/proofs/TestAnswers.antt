@@ -85,30 +85,32 @@ pub begun_for : {X : Type 0} (r : Result X RunFault) (quick : Bool) (t : Litmus)
 begun_for r quick t answer old new of begun failed = record { answer = answer; of_test = of; begun = on_err r OutputFailed (AppendsBeginning old new answer) begun failed }
 
 -- a beginning of the test's answer is one of the text's
-pub begun_on : (quick asked : Bool) (text : List ℕ) (t plan : Litmus) (old new : Option (List ℕ)) → Spells text t → ((fault : PlanFault) → ¬ IsRefusal t fault) → plan ≡ t → asked ≡ quick
-    → HasWrittenSome quick plan old new → HasBegun asked text old new
-begun_on quick asked text t plan old new spelled planned same is some = record {
+pub begun_on : (quick : Bool) (text : List ℕ) (t plan : Litmus) (old new : Option (List ℕ)) → Spells text t
+    → ((fault : PlanFault) → ¬ IsRefusal t fault) → plan ≡ t
+    → HasWrittenSome quick plan old new → HasBegun quick text old new
+begun_on quick text t plan old new spelled planned same some = record {
   answer = some.answer;
   on = record {
     test = t;
     spelled = spelled;
     planned = planned;
-    of_test = subst (λ (u : Litmus). IsAnswerOf asked u some.answer) same (subst (λ (b : Bool). IsAnswerOf b plan some.answer) (sym is) some.of_test);
+    of_test = subst (λ (u : Litmus). IsAnswerOf quick u some.answer) same some.of_test;
   };
   begun = some.begun;
 }
 
 -- and the answer that was written is one of the text's
-pub reported_on : {X E : Type 0} (r : Result X E) (quick asked : Bool) (text : List ℕ) (t plan : Litmus) (old new : Option (List ℕ)) → Spells text t → ((fault : PlanFault) → ¬ IsRefusal t fault) → plan ≡ t → asked ≡ quick
-    → OnOk r (HasWritten quick plan old new) → OnOk r (HasReported asked text old new)
-reported_on (Ok x) quick asked text t plan old new spelled planned same is some = record {
+pub reported_on : {X E : Type 0} (r : Result X E) (quick : Bool) (text : List ℕ) (t plan : Litmus) (old new : Option (List ℕ))
+    → Spells text t → ((fault : PlanFault) → ¬ IsRefusal t fault) → plan ≡ t
+    → OnOk r (HasWritten quick plan old new) → OnOk r (HasReported quick text old new)
+reported_on (Ok x) quick text t plan old new spelled planned same some = record {
   answer = some.answer;
   on = record {
     test = t;
     spelled = spelled;
     planned = planned;
-    of_test = subst (λ (u : Litmus). IsAnswerOf asked u some.answer) same (subst (λ (b : Bool). IsAnswerOf b plan some.answer) (sym is) some.of_test);
+    of_test = subst (λ (u : Litmus). IsAnswerOf quick u some.answer) same some.of_test;
   };
   written = some.written;
 }
-reported_on (Err e) quick asked text t plan old new spelled planned same is some = tt
+reported_on (Err e) quick text t plan old new spelled planned same some = tt

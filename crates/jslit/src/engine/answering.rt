@@ -119,6 +119,32 @@ fn quick_report<T: Threads + Sync, W: Write, G: Watch>(
     write_quick_report(output, plan, &met, &unmet, verdict)
 }
 
+/// Writes the report that the options ask for: the quick one or the whole one.
+fn asked_report<T: Threads + Sync, W: Write, G: Watch>(
+    rt: &T,
+    alloc: Global,
+    plan: &Plan<'_>,
+    output: &mut Counted<W>,
+    options: Options,
+    watch: &G,
+    passes: Vec<G::Pass>,
+) -> Result<(), RunFault>
+    requires { length passes.items ≡ options.workers }
+    ensures written { OnOk result
+        (HasWritten options.quick plan.now (W.contents (device_of output.old)) (W.contents (device_of output.new))) }
+    ensures not_failed { OnOk result (failures_of output.new ≡ failures_of output.old) }
+    ensures begun { IsErrOf result RunFault.OutputFailed
+        → HasWrittenSome options.quick plan.now (W.contents (device_of output.old)) (W.contents (device_of output.new)) }
+    ensures failed { IsErrOf result RunFault.OutputFailed → failures_of output.new ≡ one_more (failures_of output.old) }
+    ensures unwritten { IsErrOf result RunFault.OutOfMemory → output.new ≡ output.old }
+    ensures fault { IfErr result IsOfWriting }
+{
+    if options.quick {
+        return quick_report(rt, alloc, plan, output, options, watch, passes);
+    }
+    report(rt, alloc, plan, output, options, watch, passes)
+}
+
 /// Writes the answer for a text: the report on the test that it spells. Where there is no report, it writes nothing.
 pub(crate) fn answer<T: Threads + Sync, W: Write, G: Watch>(
     rt: &T,
@@ -142,8 +168,5 @@ pub(crate) fn answer<T: Threads + Sync, W: Write, G: Watch>(
 {
     let test = read(alloc, text)?;
     let plan = plan(alloc, &test)?;
-    if options.quick {
-        return quick_report(rt, alloc, &plan, output, options, watch, passes);
-    }
-    report(rt, alloc, &plan, output, options, watch, passes)
+    asked_report(rt, alloc, &plan, output, options, watch, passes)
 }

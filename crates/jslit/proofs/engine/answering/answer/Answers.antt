@@ -1,19 +1,30 @@
-use Rattle.std.proofs.Common.{true, false}
+use Rattle.std.proofs.Common.{◌≡◌}
+use Rattle.lit_print.specs.Counted.{device_of}
 use Rattle.jslit.proofs.TestAnswers.{begun_on, reported_on}
-use Rattle.jslit.proofs.Refusals.{not_refused}
+use Rattle.jslit.proofs.Refusals.{not_refused, unwritten_on, writing_of, writing_on}
 use Rattle.jslit.proofs.engine.answering.answer.Goals as goal
-
-pub returns-then-options-clause-begun : goal.returns-then-options-clause-begun
-returns-then-options-clause-begun g c failed =
-    begun_on true c.args.options.quick c.args.text.now c.in_ok-test.test c.in_ok-plan.plan _ _ c.in_ok-test.ensures.spells
-    (not_refused c.in_ok-test.test c.in_ok-plan.ensures.few_events c.in_ok-plan.ensures.few_paths c.in_ok-plan.ensures.few_choices) c.in_ok-plan.ensures.ok c.if-options.true (c.quick_report.ensures.begun failed)
 
 pub returns-clause-reported : goal.returns-clause-reported
 returns-clause-reported g c =
-    reported_on c.report.result false c.args.options.quick c.args.text.now c.in_ok-test.test c.in_ok-plan.plan _ _ c.in_ok-test.ensures.spells
-    (not_refused c.in_ok-test.test c.in_ok-plan.ensures.few_events c.in_ok-plan.ensures.few_paths c.in_ok-plan.ensures.few_choices) c.in_ok-plan.ensures.ok c.if-options.false c.report.ensures.written
+    reported_on c.asked_report.result c.args.options.quick c.args.text.now c.in_ok-test.test c.in_ok-plan.plan
+    (g.W.Write.contents (device_of c.args.output.now))
+    (g.W.Write.contents (device_of c.asked_report.new.output)) c.in_ok-test.ensures.spells
+    (not_refused c.in_ok-test.test c.in_ok-plan.ensures.few_events c.in_ok-plan.ensures.few_paths c.in_ok-plan.ensures.few_choices)
+    c.in_ok-plan.ensures.ok c.asked_report.ensures.written
 
 pub returns-clause-begun : goal.returns-clause-begun
 returns-clause-begun g c failed =
-    begun_on false c.args.options.quick c.args.text.now c.in_ok-test.test c.in_ok-plan.plan _ _ c.in_ok-test.ensures.spells
-    (not_refused c.in_ok-test.test c.in_ok-plan.ensures.few_events c.in_ok-plan.ensures.few_paths c.in_ok-plan.ensures.few_choices) c.in_ok-plan.ensures.ok c.if-options.false (c.report.ensures.begun failed)
+    begun_on c.args.options.quick c.args.text.now c.in_ok-test.test c.in_ok-plan.plan (g.W.Write.contents (device_of c.args.output.now))
+    (g.W.Write.contents (device_of c.asked_report.new.output)) c.in_ok-test.ensures.spells
+    (not_refused c.in_ok-test.test c.in_ok-plan.ensures.few_events c.in_ok-plan.ensures.few_paths c.in_ok-plan.ensures.few_choices)
+    c.in_ok-plan.ensures.ok (c.asked_report.ensures.begun failed)
+
+pub returns-clause-unwritten : goal.returns-clause-unwritten
+returns-clause-unwritten g c = unwritten_on c.asked_report.result (c.asked_report.new.output ≡ c.args.output.now)
+    c.asked_report.ensures.fault c.asked_report.ensures.unwritten
+
+pub returns-clause-refused : goal.returns-clause-refused
+returns-clause-refused g c = writing_on c.asked_report.result c.args.text.now c.asked_report.ensures.fault
+
+pub returns-clause-of_text : goal.returns-clause-of_text
+returns-clause-of_text g c = writing_of c.asked_report.result c.asked_report.ensures.fault
