@@ -1,6 +1,6 @@
 //! The entries of a report, printed by several workers: each prints a page at a time, and the pages are put in their order.
 
-ghost use Rattle.std.specs.Prelude.{◌<◌, ◌≤◌, All, length};
+ghost use Rattle.std.specs.Prelude.{◌<◌, ◌≤◌, All, IfOk, length};
 ghost use Rattle.std.specs.List.{flat_map};
 ghost use Rattle.std.specs.Thread.{IsSync};
 ghost use Rattle.lit_paths.specs.Choice.{choices_of};
@@ -41,7 +41,9 @@ fn pages_of(entries: usize) -> usize
 
 /// The empty pages for a report with so many entries: none where a page would hold the report or a worker is alone, else one for
 /// each worker, but no more than the report needs.
-pub fn pages_for(alloc: Global, entries: usize, workers: usize) -> Result<Vec<Page>, AllocError> {
+pub fn pages_for(alloc: Global, entries: usize, workers: usize) -> Result<Vec<Page>, AllocError>
+    ensures few { IfOk result (λ pages. length pages.items ≤ workers) }
+{
     let mut pages = Vec::new(alloc);
     let count = workers.min(pages_of(entries));
     if count > 1 {
