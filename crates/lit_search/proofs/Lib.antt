@@ -3,6 +3,7 @@ pub mod RankLemmas
 pub mod NumberSets
 pub mod BoxedLemmas
 pub mod MergedEntries
+pub mod Popped
 pub mod Reports
 pub mod RisenEntries
 pub mod GainLemmas
