@@ -24,14 +24,13 @@ OTHERS = {
 # What is said of a fault, and not of how far the build is. Right before it may stand what a command began to say that was
 # given up, as in `find: cannot forkjslit: ..`.
 FAULT = re.compile(r"jslit: (?!proving |\d+ of \d+: |another start |built )")
-# What the stand-in does: `lib` may take long, `run` writes a program that prints the digest of the sources and the number
-# of builds so far. It calls the system's own commands, whatever stands before them on the path.
+# What the stand-in does: `run` writes a program that prints the digest of the sources. It calls the system's own commands,
+# whatever stands before them on the path.
 RT = r"""#!/bin/bash
-said=$PATH PATH=/usr/bin:/bin
+PATH=/usr/bin:/bin
 unset FORKS LD_PRELOAD
 case $1 in
     version) echo "${RT_VERSION:-stand-in 1}" ;;
-    lib) if [ -n "$RT_CHECK" ]; then PATH=$said; eval "$RT_CHECK"; fi ;;
     run)
         mkdir -p out && echo >>../../builds
         cd ..
@@ -40,6 +39,21 @@ case $1 in
         printf '#!/bin/sh\necho %s\n' "${sum%% *}" >out/jslit_cli.made
         chmod +x out/jslit_cli.made && mv out/jslit_cli.made out/jslit_cli ;;
 esac
+"""
+# The kit's other two: one proves, which for a library may take long; the other one links.
+RATTLE = r"""#!/bin/bash
+said=$PATH PATH=/usr/bin:/bin
+unset FORKS LD_PRELOAD
+made=${!#}
+case " $* " in
+    *" --statements "*)
+        if [ -n "$RT_CHECK" ]; then PATH=$said; eval "$RT_CHECK"; fi
+        exec /bin/mkdir "$made" ;;
+    *) echo >"$made" ;;
+esac
+"""
+LINK = r"""#!/bin/bash
+exec "${0%/*}/rt" run
 """
 # A command that fails at one call, and is the system's own at all others.
 FAILING = r"""#!/bin/bash
@@ -174,9 +188,8 @@ class Check:
         self.work.mkdir()
         self.tools = self.work / "bin"
         self.tools.mkdir()
-        self.command(self.tools / "rt", RT)
-        # Where rt keeps what one copy of a repository may take from another.
-        (pathlib.Path(work) / "rattle-kept/work").mkdir(parents=True)
+        for name, text in (("rt", RT), ("rattle", RATTLE), ("rattle-link", LINK)):
+            self.command(self.tools / name, text)
         # What is preloaded can't have blanks in its name.
         self.forks = pathlib.Path(work) / "forks.so"
         subprocess.run([os.environ.get("CC", "cc"), "-shared", "-fPIC", "-o", self.forks, "-x", "c", TOP / "tools/refusing/forks.c.in"], check=True)
