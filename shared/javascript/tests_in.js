@@ -21,10 +21,10 @@ function testsIn(paths) {
     try {
       if (!fs.statSync(each).isDirectory()) return [each];
       const found = inFolder(each);
-      if (found.length === 0) throw new Failure(2, `${plain(each)} has no .lit file`);
+      if (found.length === 0) throw new Failure(4, `${plain(each)} has no .lit file`);
       return found;
     } catch (error) {
-      throw error instanceof Failure ? error : new Failure(2, plain(error.message));
+      throw error instanceof Failure ? error : new Failure(4, plain(error.message));
     }
   });
 }
