@@ -25,6 +25,7 @@ class Running:
 
     def __init__(self):
         self.runs, self.lock, self.starting, self.stopped_by = set(), threading.RLock(), False, None
+        self.apart = True  # whether each has a group of its own: not where whoever started this process ends its group
 
     def start(self, run, words, **more):
         """Starts a program, unless a signal has come. One that comes meanwhile waits until the run is known."""
@@ -32,7 +33,7 @@ class Running:
             self.check()
             self.starting = True
             try:
-                run.child = subprocess.Popen(words, start_new_session=True, **more)
+                run.child = subprocess.Popen(words, start_new_session=self.apart, **more)
                 self.runs.add(run)
             finally:
                 self.starting = False
@@ -87,6 +88,7 @@ class Run:
             self.keeper.start()
         except RuntimeError:
             # The system refuses a thread.
+            self.kill()
             self.finish()
             raise
         return self
@@ -115,7 +117,7 @@ class Run:
     def kill(self):
         if self.child.returncode is None:
             try:
-                os.killpg(self.child.pid, signal.SIGKILL)
+                (os.killpg if RUNNING.apart else os.kill)(self.child.pid, signal.SIGKILL)
             except ProcessLookupError:
                 pass
 
