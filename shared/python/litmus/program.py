@@ -31,16 +31,15 @@ def out_of_memory(name):
     return Fault(f"{shown(name)}: out of memory", statuses.MEMORY)
 
 
-class Build:
-    """A build of a program by tools/build-program, which says on standard error how far it is. A signal ends it in its own way."""
+class Awaited:
+    """A program that is waited for, without a limit, since it may prove for minutes; it says on the command's own standard error how
+    far it is. A signal ends it in its own way."""
 
-    def __init__(self, program, name):
-        RUNNING.start(self, [TOP / "tools" / "build-program", program, name], stdin=subprocess.DEVNULL, stdout=sys.stderr.fileno())
-        status = self.child.wait()
+    def __init__(self, *words, stdout=subprocess.DEVNULL):
+        RUNNING.start(self, words, stdin=subprocess.DEVNULL, stdout=stdout)
+        self.status = self.child.wait()
         RUNNING.runs.discard(self)
         RUNNING.check()
-        if status:
-            raise Fault(f"there is no program {name}", statuses.NO_PROGRAM)
 
     def kill(self):
         try:
@@ -54,7 +53,8 @@ def own(installed, made, name):
     """A program of this repository, proved and built first where that is due: so it isn't asked anew before each run."""
     if installed.exists():
         return str(installed)
-    Build(made, name)
+    if Awaited(TOP / "tools" / "build-program", made, name, stdout=sys.stderr.fileno()).status:
+        raise Fault(f"there is no program {name}", statuses.NO_PROGRAM)
     return str(made)
 
 
@@ -64,7 +64,7 @@ def built(named):
         return own(INSTALLED, MADE, "jslit")
     program = pathlib.Path(named).resolve()
     try:
-        status = subprocess.run([program, "--help"], stdin=subprocess.DEVNULL, stdout=subprocess.DEVNULL).returncode
+        status = Awaited(program, "--help").status
     except (OSError, ValueError) as error:
         raise silent(named, f"it doesn't run: {getattr(error, 'strerror', None) or error}") from error
     if status:
