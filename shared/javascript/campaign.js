@@ -5,7 +5,7 @@ const crypto = require('crypto');
 const fs = require('fs');
 const os = require('os');
 const path = require('path');
-const { Allowed, Failure, isStopping, makeFolder, readText, testAndReport } = require('./command.js');
+const { Allowed, Failure, isStopping, makeFolder, readText, testAndReport, useProgram } = require('./command.js');
 const { LIMITS, runEngine } = require('./engine.js');
 const { keep } = require('./keep.js');
 const { Fault, plain } = require('./lines.js');
@@ -86,17 +86,19 @@ class Campaign {
   // A run. A failure has a record too.
   async one({ file, engine, told }) {
     let text = Buffer.alloc(0);
+    let unread;
     try {
       text = readText(file);
-    } catch {
-      // What is wrong with it is said below.
+    } catch (error) {
+      unread = error;
     }
     const run = this.begun(file, text, engine);
+    if (unread !== undefined) return this.without(run, 'no report', unread);
     const { record, failed } = this.log.found(run);
     if (record !== undefined) return { run: record, known: true, failed, status: failed ? 1 : STATUSES[record.result] };
     run.failed_before = Number(failed);
     try {
-      told.report ??= testAndReport({ ...this.words, file });
+      told.report ??= this.reportOf(file);
       const report = await told.report.catch((error) => {
         run.result = 'no report';
         throw error;
@@ -105,9 +107,20 @@ class Campaign {
       return { run, known: false, failed, told: report, status: failed ? 1 : STATUSES[run.result] };
     } catch (error) {
       if (!(error instanceof Failure || error instanceof Fault)) throw error;
-      run.said = error.message;
-      return { run, known: false, failed, failure: error, status: failed ? 1 : error.status ?? 70 };
+      return this.without(run, run.result, error);
     }
+  }
+
+  // A run that came to nothing.
+  without(run, result, failure) {
+    const failed = run.failed_before > 0;
+    return { run: { ...run, result, said: failure.message }, known: false, failed, failure, status: failed ? 1 : failure.status ?? 70 };
+  }
+
+  // The test in a file, and its report; the program is looked for when it is first asked.
+  async reportOf(file) {
+    this.program ??= useProgram(this.words.program);
+    return testAndReport({ ...this.words, program: await this.program, file });
   }
 
   async runOn(engine, { test, allowed }, file, run) {

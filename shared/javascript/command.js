@@ -156,14 +156,16 @@ async function read(stream, allowed, status) {
   }
 }
 
-// The program to ask: in place of bin/jslit, which looks at its sources whenever it starts, what that runs, once it has looked.
+// The program to ask: in place of bin/jslit, which looks at its sources whenever it starts, what that runs, proved and built first
+// where that is due.
 async function useProgram(program) {
   if (path.resolve(program) !== JSLIT) return program;
-  const { ended } = start(JSLIT, ['--help'], ['ignore', 'ignore', 'inherit']);
-  const { error, status } = await ended;
-  if (error || status !== 0) throw new Failure(70, `${plain(program)} can't be run`);
   const installed = path.join(TOP, 'libexec', 'jslit');
-  return fs.existsSync(installed) ? installed : path.join(TOP, 'crates', 'jslit_cli', 'out', 'jslit_cli');
+  if (fs.existsSync(installed)) return installed;
+  const made = path.join(TOP, 'crates', 'jslit_cli', 'out', 'jslit_cli');
+  const { error, status } = await start(path.join(TOP, 'tools', 'build-program'), [made, 'jslit'], ['ignore', 2, 2]).ended;
+  if (error || status !== 0) throw new Failure(70, 'there is no program jslit');
+  return made;
 }
 
 // What the program's own status means to a command: its table has 3 and 4 too, and any other says that it didn't run as it should.

@@ -1,7 +1,7 @@
 'use strict';
 // The command jslit-engine; README.md describes it.
 
-const { isStopping, run, useProgram } = require('./command.js');
+const { isStopping, run } = require('./command.js');
 const { Campaign } = require('./campaign.js');
 const { Log } = require('./campaign_log.js');
 const { runEngine } = require('./engine.js');
@@ -16,7 +16,6 @@ async function main(given) {
   const words = asked(given);
   if (words.help) return process.stdout.write(USAGE) && 0;
   const log = new Log(words.log);
-  words.program = await useProgram(words.program);
   const engines = [];
   for (const command of words.engines) engines.push(await engineOf(command, words['engine-id'], runEngine));
   const campaign = new Campaign(words, engines, machineOf(words.machine), log);

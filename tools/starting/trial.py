@@ -21,6 +21,9 @@ OTHERS = {
     "crates/low/must-fail/one.edit": "edit\n", "crates/low_tests/src/lib.rt": "tests\n", "crates/jslit_cli/stdin": "in\n",
     "crates/jslit_cli/stdout": "out\n", "README.md": "words\n",
 }
+# The scripts that are tried, with the files that they read.
+SCRIPTS = ("bin/jslit", "tools/build-program", "tools/building/proving.sh", "tools/building/sources.sh", "shared/bash/own.sh", "shared/bash/start.sh",
+           "shared/bash/words.sh", "docs/help/jslit.txt", "crates/lit_words/src/version.rt")
 # What is said of a fault, and not of how far the build is. Right before it may stand what a command began to say that was
 # given up, as in `find: cannot forkjslit: ..`.
 FAULT = re.compile(r"jslit: (?!proving |\d+ of \d+: |another start |built )")
@@ -32,7 +35,7 @@ unset FORKS LD_PRELOAD
 case $1 in
     version) echo "${RT_VERSION:-stand-in 1}" ;;
     run)
-        mkdir -p out && echo >>../../builds
+        mkdir -p out && echo >>"$(realpath out)/../../../builds"
         cd ..
         sum=$(find {low,middle,beside,jslit_cli}/{src,specs,proofs} -type f -print0 2>/dev/null | LC_ALL=C sort -z | xargs -0 sha256sum | sha256sum)
         cd jslit_cli
@@ -99,8 +102,8 @@ class Repository:
         for name, text in {**SOURCES, **OTHERS}.items():
             self.write(name, text)
         (self.folder / "jslit").symlink_to("bin/jslit")
-        for name in ("bin/jslit", "tools/build-program"):
-            (self.folder / name).parent.mkdir()
+        for name in SCRIPTS:
+            (self.folder / name).parent.mkdir(parents=True, exist_ok=True)
             with WRITING:
                 shutil.copy(scripts / name, self.folder / name)
 
@@ -128,7 +131,8 @@ class Start:
 
     def __init__(self, tools, repository, **more):
         self.repository, self.mark = repository, f"MARK_OF={repository.folder};"
-        self.environment = {**os.environ, "PATH": f"{tools}:{os.environ['PATH']}", "MARK_OF": f"{repository.folder};", **more.pop("environment", {})}
+        self.environment = {**os.environ, "PATH": f"{tools}:{os.environ['PATH']}", "MARK_OF": f"{repository.folder};",
+                            "REPOSITORY": str(repository.folder), **more.pop("environment", {})}
         self.child = begin(more.pop("command", ["./jslit"]), env=self.environment, cwd=more.pop("cwd", repository.folder),
                            stdin=subprocess.DEVNULL, stdout=subprocess.PIPE, stderr=subprocess.PIPE, text=True, **more)
 

@@ -1,10 +1,11 @@
 """What the program answers to a text, asked within a limit of time."""
-import subprocess
-import tempfile
 import threading
 import time
 
+from litmus import statuses
 from litmus.ends import shown
+from litmus.processes import Run
+from litmus.program import out_of_memory, silent
 from litmus.report import read_report
 from litmus.text import Fault
 
@@ -17,7 +18,7 @@ class Late(Fault):
 
 
 class Clock:
-    """The time that all runs together may take."""
+    """The time that runs may take: all together."""
 
     def __init__(self, seconds):
         self.seconds, self.end = seconds, time.monotonic() + seconds
@@ -29,7 +30,7 @@ class Clock:
         return left
 
     def late(self, name):
-        return Late(f"{shown(name)}: no answer within {self.seconds:g} seconds")
+        return Late(f"{shown(name)}: no answer within {self.seconds:g} seconds", statuses.LITTLE)
 
 
 class Program:
@@ -40,38 +41,29 @@ class Program:
 
     def report(self, name, data, *words, kept=NONE):
         """The report on the text in `data`, which stands in the file of this name, with the outcomes in the places `kept`."""
-        left, late = self.clock.left(name), threading.Event()
+        left, report = self.clock.left(name), None
         with self.lock:
             self.runs += 1
-        with tempfile.TemporaryFile() as text, tempfile.TemporaryFile() as fault:
-            text.write(data)
-            text.seek(0)
-            try:
-                child = subprocess.Popen([self.path, *words], stdin=text, stdout=subprocess.PIPE, stderr=fault)
-            except OSError as error:
-                raise Fault(f"{shown(self.path)}: {error.strerror}") from error
-            timer = threading.Timer(left, lambda: (late.set(), child.kill()))
-            timer.start()
-            try:
-                report = read_report(child.stdout, kept)
-            except Fault:
-                report = None
-                child.kill()
-            finally:
-                status = child.wait()
-                timer.cancel()
-                child.stdout.close()
-            if late.is_set():
-                raise self.clock.late(name)
-            fault.seek(0)
-            return checked(name, report, status, fault.read(4096))
+        try:
+            with Run([self.path, *words], data, left) as run:
+                try:
+                    report = read_report(run.out, kept)
+                except Fault:
+                    run.kill()
+        except OSError as error:
+            raise silent(self.path, error.strerror) from error
+        if run.late:
+            raise self.clock.late(name)
+        return checked(self.path, name, report, run)
 
 
-def checked(name, report, status, fault):
-    """The report, where it is one."""
-    if status == 1 and report and "refused" in report.other:
+def checked(path, name, report, run):
+    """The report of an ended run, where it is one."""
+    if run.status == 1 and report and "refused" in report.other:
         raise Fault(f"{shown(name)}: {report.other['refused']}; jslit-explain says more")
-    if status or not report or "verdict" not in report.other:
-        told = fault.decode("latin-1").strip() or f"status {status}, and no report"
-        raise Fault(f"{shown(name)}: {shown(told)}")
+    if run.status == 3:
+        raise out_of_memory(name)
+    if run.status or not report or "verdict" not in report.other:
+        told = run.said.decode("latin-1").strip() or f"status {run.status}, and no report"
+        raise silent(path, f"{told}, on {name}")
     return report

@@ -1,9 +1,9 @@
 """Where a tool meets the world: a text in a file, read to a bound; names as they may be printed; and an end without a trace."""
 import os
-import pathlib
 import sys
 
-from litmus import limits
+from litmus import limits, statuses
+from litmus.processes import Stopped, end_by, watch_signals
 from litmus.text import Fault
 
 
@@ -24,6 +24,14 @@ def read_text(name):
     return b"".join(pieces)
 
 
+def given_text(name):
+    """The same, of a file that the words name."""
+    try:
+        return read_text(name)
+    except (OSError, ValueError) as error:
+        raise Fault(f"{shown(name)}: {getattr(error, 'strerror', None) or error}", statuses.DEVICE) from error
+
+
 def write_nowhere(number):
     """What Python still holds back for this output goes nowhere at its end, so that it can't fail there."""
     nowhere = os.open(os.devnull, os.O_WRONLY)
@@ -39,25 +47,40 @@ def say(line):
         write_nowhere(2)
 
 
-def run(main):
-    """Ends the process with the status of a tool's main. A fault, or an output that fails, is one line and status 1."""
-    tool = pathlib.Path(sys.argv[0]).name
+def ended(tool, main):
+    """The status of a tool's main. A fault, or a device that fails, is one line; an output that nobody takes any more is none."""
     try:
         status = main(sys.argv[1:])
         sys.stdout.flush()
+        return status
     except Fault as fault:
         say(f"{tool}: {fault}")
-        status = 1
+        return fault.status
+    except MemoryError:
+        say(f"{tool}: out of memory")
+        return statuses.MEMORY
     except BrokenPipeError:
-        status = 1
+        return statuses.DEVICE
     except OSError as error:
         where = f"{shown(error.filename)}: " if error.filename is not None else ""
         say(f"{tool}: {where}{error.strerror or error}")
-        status = 1
-    except KeyboardInterrupt:
-        status = 130
+        return statuses.DEVICE
+
+
+def run(tool, main):
+    """Ends the process with the status of a tool's main; or, once its programs have ended, by the signal that came."""
+    watch_signals()
+    try:
+        status = ended(tool, main)
+    except Stopped as stopped:
+        write_nowhere(1)
+        end_by(stopped.number)
+    except SystemExit as exit:
+        # By argparse: the words are wrong, or --help has printed.
+        status = exit.code
     try:
         sys.stdout.flush()
     except OSError:
         write_nowhere(1)
+        status = status or statuses.DEVICE
     sys.exit(status)

@@ -1,14 +1,12 @@
 """Executions of a test, as bin/jslit-why tells them by --json: what the memory model says of one is that program's to say."""
 import collections
 import json
-import subprocess
 
+from litmus import statuses
 from litmus.ends import shown
+from litmus.processes import output_of
+from litmus.program import out_of_memory, silent
 from litmus.text import Fault
-
-
-class OutOfMemory(Fault):
-    """The program has said so."""
 
 
 class Event(collections.namedtuple("Event", "name line kind order first size reads writes")):
@@ -35,19 +33,19 @@ class Execution:
 def ask(program, words, name, data, seconds=None):
     """What jslit-why answers to these words about the text in `data`, which stands in the file of this name."""
     try:
-        told = subprocess.run([program, "--json", *words], input=data, capture_output=True, timeout=seconds)
+        run, printed = output_of([program, "--json", *words], data, seconds)
     except OSError as error:
-        raise Fault(f"{shown(program)}: {error.strerror}") from error
-    except subprocess.TimeoutExpired as error:
-        raise Fault(f"{shown(name)}: no answer within {seconds:.1f} seconds") from error
-    said = told.stdout.decode("latin-1").strip()
-    if told.returncode in (0, 1) and said.startswith("{"):
+        raise silent(program, error.strerror) from error
+    said = printed.decode("latin-1").strip()
+    if run.late:
+        raise Fault(f"{shown(name)}: no answer within {seconds:.1f} seconds", statuses.LITTLE)
+    if run.status in (0, 1) and said.startswith("{"):
         return json.loads(said)
-    if told.returncode == 1:
+    if run.status == 1:
         raise Fault(f"{shown(name)}: {said}; jslit-explain says more")
-    if told.returncode == 3:
-        raise OutOfMemory("out of memory")
-    raise Fault(told.stderr.decode("latin-1").strip() or f"{shown(program)}: status {told.returncode}")
+    if run.status == 3:
+        raise out_of_memory(name)
+    raise silent(program, run.said.decode("latin-1").strip() or f"status {run.status}")
 
 
 def ask_sources(program, sources, values, name, data, seconds=None):

@@ -1,8 +1,6 @@
 """All notes on a text: those of the text alone, and those on the examples of its report, where the program has it in time."""
-import subprocess
-import threading
-
 from litmus import notes, torn
+from litmus.processes import Run
 from litmus.program import own_why
 from litmus.report import read_report
 from litmus.text import Fault
@@ -12,19 +10,13 @@ EXAMPLES = range(1000)  # of a report, those that are looked at
 
 def reported(program, words, data, seconds):
     """The outcomes of the report that the program prints on a text; none where there is none in time."""
-    with subprocess.Popen([program, *words], stdin=subprocess.PIPE, stdout=subprocess.PIPE, stderr=subprocess.DEVNULL) as run:
-        clock = threading.Timer(seconds, run.kill)
-        clock.start()
+    report = None
+    with Run([program, *words], data, seconds) as run:
         try:
-            run.stdin.write(data)
-            run.stdin.close()
-            report = read_report(run.stdout, EXAMPLES)
-        except (BrokenPipeError, Fault):
+            report = read_report(run.out, EXAMPLES)
+        except Fault:
             run.kill()
-            return []
-        finally:
-            clock.cancel()
-        return report.outcomes if run.wait() == 0 else []
+    return report.outcomes if report and run.status == 0 else []
 
 
 def noted(program, words, data, seconds):

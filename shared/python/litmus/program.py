@@ -1,7 +1,14 @@
 """The programs that commands run, and the version of all."""
 import pathlib
 import re
+import signal
 import subprocess
+import sys
+
+from litmus import statuses
+from litmus.ends import shown
+from litmus.processes import RUNNING
+from litmus.text import Fault
 
 TOP = pathlib.Path(__file__).resolve().parent.parent.parent.parent
 JSLIT, WHY = TOP / "bin" / "jslit", TOP / "bin" / "jslit-why"
@@ -15,12 +22,54 @@ def version():
     return re.search(r'"(\d+\.\d+\.\d+)\n(.*)";', SOURCE.read_text()).groups()
 
 
-def built(words):
-    """The program named, or that of bin/jslit, once it is built, so that it isn't asked anew for each run."""
-    program = pathlib.Path((words or [JSLIT])[0]).resolve()
-    subprocess.run([program, "--help"], check=True, stdout=subprocess.DEVNULL)
-    own = INSTALLED if INSTALLED.exists() else MADE
-    return str(own if program == JSLIT else program)
+def silent(path, why):
+    """The fault of a program that doesn't run, or doesn't end as it should."""
+    return Fault(f"{shown(path)}: {shown(why)}", statuses.NO_PROGRAM)
+
+
+def out_of_memory(name):
+    return Fault(f"{shown(name)}: out of memory", statuses.MEMORY)
+
+
+class Awaited:
+    """A program that is waited for, without a limit, since it may prove for minutes; it says on the command's own standard error how
+    far it is. A signal ends it in its own way."""
+
+    def __init__(self, *words, stdout=subprocess.DEVNULL):
+        RUNNING.start(self, words, stdin=subprocess.DEVNULL, stdout=stdout)
+        self.status = self.child.wait()
+        RUNNING.runs.discard(self)
+        RUNNING.check()
+
+    def kill(self):
+        try:
+            self.child.send_signal(signal.SIGTERM)
+            self.child.wait(5)
+        except subprocess.TimeoutExpired:
+            self.child.kill()
+
+
+def own(installed, made, name):
+    """A program of this repository, proved and built first where that is due: so it isn't asked anew before each run."""
+    if installed.exists():
+        return str(installed)
+    if Awaited(TOP / "tools" / "build-program", made, name, stdout=sys.stderr.fileno()).status:
+        raise Fault(f"there is no program {name}", statuses.NO_PROGRAM)
+    return str(made)
+
+
+def built(named):
+    """The program named, if it is one and runs, or else that of bin/jslit."""
+    if not named or pathlib.Path(named).resolve() == JSLIT:
+        return own(INSTALLED, MADE, "jslit")
+    program = pathlib.Path(named).resolve()
+    try:
+        status = Awaited(program, "--help").status
+    except (OSError, ValueError) as error:
+        raise silent(named, f"it doesn't run: {getattr(error, 'strerror', None) or error}") from error
+    if status:
+        raise silent(named, f"it doesn't run: --help ends with status {status}")
+    return str(program)
 
 
 def own_why():
@@ -29,6 +78,5 @@ def own_why():
 
 
 def built_why():
-    """The program of bin/jslit-why, once it is built."""
-    subprocess.run([WHY, "--help"], check=True, stdout=subprocess.DEVNULL)
-    return str(own_why())
+    """The program of bin/jslit-why."""
+    return own(WHY_INSTALLED, WHY_MADE, "jslit-why")

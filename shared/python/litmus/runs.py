@@ -6,13 +6,12 @@ import json
 import os
 import re
 import stat
-import subprocess
 import tempfile
-import threading
 import time
 
 from litmus import limits, noting
 from litmus.ends import read_text
+from litmus.processes import Run
 from litmus.program import TOP, version
 
 EXPECT = re.compile(rb"^// expect:(.*)$", re.M)
@@ -68,6 +67,19 @@ def spoken(answer):
     return f"verdict {verdict}, outcomes {outcomes}, data race {data_race}"
 
 
+def walked(path, unread):
+    """The folders below a path, and what is in each, by way of links too; each folder once, by however many links it is reached."""
+    seen = set()
+    for folder, folders, names in os.walk(path, followlinks=True, onerror=lambda error: unread.append(str(error.filename))):
+        here = os.stat(folder)
+        if (here.st_dev, here.st_ino) in seen:
+            folders.clear()
+            continue
+        seen.add((here.st_dev, here.st_ino))
+        folders.sort()
+        yield folder, folders, names
+
+
 def files_in(paths):
     """The files that paths name, a folder's by name; a folder that has none, or can't be read, is a file that isn't there."""
     for path in paths:
@@ -75,8 +87,8 @@ def files_in(paths):
             yield path
             continue
         unread = []
-        walk = os.walk(path, followlinks=True, onerror=lambda error: unread.append(str(error.filename)))
-        found = sorted(os.path.join(folder, name) for folder, folders, names in walk for name in folders + names if name.endswith(".lit"))
+        found = sorted(os.path.join(folder, name) for folder, folders, names in walked(path, unread)
+                       for name in folders + names if name.endswith(".lit"))
         yield from found or ([] if unread else [os.path.join(path, "*.lit")])
         yield from unread
 
@@ -85,30 +97,23 @@ def fault_of(file):
     """What is wrong with a file before it is run, or None."""
     try:
         kind = os.stat(file).st_mode
-    except (OSError, ValueError):
+    except OSError as error:
+        return "no such file" if isinstance(error, FileNotFoundError) else (error.strerror or str(error)).lower()
+    except ValueError:
         return "no such file"
     if stat.S_ISDIR(kind):
-        return "a folder"
+        return "a folder" if os.access(file, os.R_OK | os.X_OK) else "a folder that can't be read"
     if not stat.S_ISREG(kind):
         return "no regular file"
     return None if os.access(file, os.R_OK) else "can't be read"
-
-
-def with_names_once(results):
-    """The results, where a test with the name of an earlier one fails."""
-    first = {}
-    for result in results:
-        if result.test is not None and first.setdefault(result.test, result.file) != result.file and not result.fault:
-            result.fails(f"{printed_name(first[result.test])} has a test {result.test} too")
-        yield result
 
 
 class Runs:
     """Runs of a program. Where `stated` a file has to have its line; where `record` one that has none gets it; where `noted` each
     that has a report gets its notes."""
 
-    def __init__(self, program, seconds, record, stated, noted=False):
-        self.program, self.seconds, self.record, self.stated, self.noted = program, seconds, record, stated, noted
+    def __init__(self, program, limit, record, stated, noted=False):
+        self.program, self.limit, self.record, self.stated, self.noted = program, limit, record, stated, noted
 
     def results(self, files, jobs):
         """A result for each file, in their order, so many runs at a time."""
@@ -134,9 +139,9 @@ class Runs:
             return result.fails(error.strerror)
         name, expected = NAME.search(text), EXPECT.findall(text)
         result.test = name and name[1].decode("ascii")
-        fault = self.run(file, result)
+        fault = self.run(text, result)
         if self.noted and not fault:
-            result.notes = noting.noted(self.program, [], text, self.seconds)
+            result.notes = noting.noted(self.program, [], text, self.limit)
         wanted = FORM.fullmatch(expected[0]) if len(expected) == 1 else None
         if expected and not wanted or not expected and self.stated:
             return result.fails("no line '// expect: verdict V, outcomes N, data race R'")
@@ -149,31 +154,21 @@ class Runs:
         result.result = "seen"
         return self.recorded(file, text, result) if self.record else result
 
-    def run(self, file, result):
-        """Runs the program on a file; what is wrong, or None."""
-        begun, late = time.monotonic(), threading.Event()
+    def run(self, text, result):
+        """Runs the program on a text; what is wrong, or None."""
+        begun = time.monotonic()
         try:
-            with open(file, "rb") as text, tempfile.TemporaryFile() as said:
-                child = subprocess.Popen([self.program], stdin=text, stdout=subprocess.PIPE, stderr=said)
-                clock = threading.Timer(self.seconds, lambda: (late.set(), child.kill()))
-                clock.start()
-                try:
-                    first, last = beginning_and_end(child.stdout)
-                    status = child.wait()
-                finally:
-                    clock.cancel()
-                    child.stdout.close()
-                said.seek(0)
-                first += said.read(BEGINNING)
+            with Run([self.program], text, self.limit) as run:
+                first, last = beginning_and_end(run.out)
         except OSError as error:
             return error.strerror
         result.seconds = round(time.monotonic() - begun, 4)
-        if late.is_set():
-            return f"no report within {self.seconds:g} seconds"
+        if run.late:
+            return f"no report within {self.limit:g} seconds"
         answer = LAST.search(last)
-        if status or not answer:
-            told = first.decode("latin-1").strip().split("\n")[0] or "no report"
-            return f"status {status}, {printed_name(told)}"
+        if run.status or not answer:
+            told = (first + run.said).decode("latin-1").strip().split("\n")[0] or "no report"
+            return f"status {run.status}, {printed_name(told)}"
         result.outcomes, result.verdict, result.data_race = int(answer[1]), answer[2].decode(), answer[3].decode()
         return None
 

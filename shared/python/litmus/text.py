@@ -2,9 +2,15 @@
 import collections
 import re
 
+from litmus import statuses
+
 
 class Fault(Exception):
-    """What a tool says instead of doing its work."""
+    """What a tool says instead of doing its work, and the status with which it ends then."""
+
+    def __init__(self, said, status=statuses.NO):
+        super().__init__(said)
+        self.status = status
 
 
 class Event(collections.namedtuple("Event", "line register atomic first size value expected number whole",

@@ -3,9 +3,11 @@ import argparse
 import os
 import re
 
+from litmus import statuses
 from litmus.ends import shown
 from litmus.help import Help
 from litmus.program import version
+from litmus.text import Fault
 
 
 class Words(argparse.ArgumentParser):
@@ -18,10 +20,15 @@ class Words(argparse.ArgumentParser):
         self.add_argument("--program")
 
     def error(self, message):
-        self.exit(2, f"{self.prog}: {shown(message)}\n")
+        raise Fault(f"{shown(message)}; {self.prog} --help says what they may be", statuses.WORDS)
 
-    def add_seconds(self, default):
-        self.add_argument("--seconds", type=seconds_of, default=default)
+    def add_limit(self, default):
+        """How long each run of the program may take."""
+        self.add_argument("--limit", type=seconds_of, default=default)
+
+    def add_time(self, default):
+        """How long all runs together may take."""
+        self.add_argument("--time", type=seconds_of, default=default)
 
     def add_jobs(self):
         self.add_argument("--jobs", type=jobs_of, default=os.cpu_count())
@@ -35,5 +42,5 @@ def jobs_of(text):
 
 def seconds_of(text):
     if not re.fullmatch(r"[0-9]{1,6}(\.[0-9]{1,6})?", text) or not float(text):
-        raise argparse.ArgumentTypeError(f"--seconds {text} is no number above 0")
+        raise argparse.ArgumentTypeError(f"{text} is no number of seconds above 0")
     return float(text)

@@ -6,15 +6,16 @@ import json
 import pathlib
 import re
 import resource
-import subprocess
 import sys
 
 sys.dont_write_bytecode = True
 sys.path.insert(0, str(pathlib.Path(__file__).resolve().parent.parent))
-from litmus import faults, noting, refusals  # noqa: E402
+from litmus import faults, noting, refusals, statuses  # noqa: E402
 from litmus.condition import meets  # noqa: E402
-from litmus.executions import Execution, OutOfMemory, ask  # noqa: E402
+from litmus.executions import Execution, ask  # noqa: E402
 from litmus.forms import code_of  # noqa: E402
+from litmus.processes import RUNNING, Run  # noqa: E402
+from litmus.program import out_of_memory, silent  # noqa: E402
 from litmus.report import read_report  # noqa: E402
 from litmus.text import Fault, read_test  # noqa: E402
 from web.limits import MEBIBYTES, PART, RACE, REPORT, SECONDS, stopped  # noqa: E402
@@ -36,19 +37,18 @@ def bound():
 
 def asked(program, words, data, part=range(0)):
     """What the program prints on the text, as a Report."""
-    run = subprocess.Popen([program, *words], stdin=subprocess.PIPE, stdout=subprocess.PIPE, stderr=subprocess.PIPE)
-    try:
-        run.stdin.write(data)
-        run.stdin.close()
-    except BrokenPipeError:
-        pass
-    report = read_report(run.stdout, part)
-    status = run.wait()
-    if status == 3:
-        raise OutOfMemory("out of memory")
-    if status not in (0, 1) or (status == 1) != ("refused" in report.other):
-        raise Fault(f"the program ended with status {status}")
+    with Run([program, *words], data) as run:
+        report = read_report(run.out, part)
+    see_end(run, report.other)
     return report
+
+
+def see_end(run, said=None):
+    """Whether a run of the program has ended as it should, with a refusal where it has said one."""
+    if run.status == 3:
+        raise out_of_memory(NAME)
+    if run.status not in (0, 1) or said is not None and (run.status == 1) != ("refused" in said):
+        raise silent("the program", f"status {run.status}")
 
 
 def refused(programs, line, data, schedule=None):
@@ -116,25 +116,15 @@ def answer_text(programs, data, examples):
     """The report as the program prints it, with its examples or without."""
     if examples not in ("with", "without"):
         raise Fault("examples are with or without")
-    run = subprocess.Popen([programs.jslit], stdin=subprocess.PIPE, stdout=subprocess.PIPE, stderr=subprocess.DEVNULL)
-    try:
-        run.stdin.write(data)
-        run.stdin.close()
-    except BrokenPipeError:
-        pass
     kept, size = [], 0
-    for line in run.stdout:
-        if examples == "with" or not line.startswith(b"  "):
-            kept.append(line)
-            size += len(line)
-        if size > REPORT:
-            run.kill()
-            raise Fault(f"it is longer than {REPORT >> 20} MB: the program itself has no such limit")
-    status = run.wait()
-    if status == 3:
-        raise OutOfMemory("out of memory")
-    if status not in (0, 1):
-        raise Fault(f"the program ended with status {status}")
+    with Run([programs.jslit], data) as run:
+        for line in run.out:
+            if examples == "with" or not line.startswith(b"  "):
+                kept.append(line)
+                size += len(line)
+            if size > REPORT:
+                raise Fault(f"it is longer than {REPORT >> 20} MB: the program itself has no such limit")
+    see_end(run)
     return {"kind": "text", "text": b"".join(kept).decode("latin-1")}
 
 
@@ -194,12 +184,14 @@ ANSWERS = {
 
 def main(program, why, kind, *given):
     bound()
+    # The server ends the group of this process.
+    RUNNING.apart = False
     try:
         answer = ANSWERS[kind][0](Programs(program, why), sys.stdin.buffer.read(), *given)
-    except (MemoryError, OutOfMemory):
+    except MemoryError:
         answer = stopped("memory")
     except Fault as fault:
-        answer = {"kind": "failed", "said": str(fault)}
+        answer = stopped("memory") if fault.status == statuses.MEMORY else {"kind": "failed", "said": str(fault)}
     print(json.dumps(answer))
 
 

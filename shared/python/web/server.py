@@ -96,10 +96,14 @@ class Server(http.server.ThreadingHTTPServer):
     daemon_threads = True
     request_queue_size = 128
 
-    def __init__(self, port, program, why):
+    def __init__(self, port):
         super().__init__(("127.0.0.1", port), Handler)
-        self.files, self.jobs, self.places = fixed_files(), Jobs(program, why), Places(CONNECTIONS)
+        self.files, self.jobs, self.places = fixed_files(), None, Places(CONNECTIONS)
         self.names = {f"{name}:{self.server_port}" for name in ("127.0.0.1", "localhost")}
+
+    def answer_by(self, program, why):
+        """The programs that answer, before it serves."""
+        self.jobs = Jobs(program, why)
 
     def server_bind(self):
         """As the parent does, but without asking for this machine's name."""

@@ -1,0 +1,64 @@
+# How a proved program starts: what bin/jslit and bin/jslit-why share. `name` is the command's and `top` the repository.
+#
+# In the repository the program is proved and built first where that is due, by tools/build-program; where it was installed
+# (libexec/, by tools/install) it runs as it is there. Words that ask for no text, such as --help, and words at fault are answered without
+# a build: docs/help/ has what --help prints. Where the program can't be had, a line on standard error says why, and the status is 70.
+. "$top/shared/bash/own.sh" && . "$top/shared/bash/words.sh" || exit
+shopt -s execfail
+
+end_with() {
+    trap - EXIT
+    exit "$1"
+}
+
+fail() {
+    echo "$name: $1" >&2
+    end_with 70
+}
+
+# Ends the build and then this start, by the signal that came. The build is told alone, so that it can end what it started,
+# and what still runs of its group after that is killed.
+end_by() {
+    trap '' HUP INT TERM
+    builder=${builder:-${!-}}
+    if [ -n "$builder" ]; then
+        kill -TERM "$builder"
+        wait "$builder"
+        kill -KILL -- "-$builder"
+    fi 2>/dev/null
+    trap - "$1" EXIT
+    kill -s "$1" $$
+}
+
+# Proves and builds where that is due. That is a job with a group of its own, which this waits for, so that a signal comes
+# through at once.
+build() {
+    local status=0
+    builder=
+    trap 'end_by HUP' HUP
+    trap 'end_by INT' INT
+    trap 'end_by TERM' TERM
+    set -m
+    "$top/tools/build-program" "$program" "$name" </dev/null >&2 &
+    builder=$!
+    set +m
+    wait "$builder" || status=$?
+    trap - HUP INT TERM
+    if [ $status -ne 0 ]; then
+        kill -KILL -- "-$builder" 2>/dev/null
+        [ $status -eq 70 ] || fail "tools/build-program ended with status $status"
+        end_with 70
+    fi
+}
+
+# Sets `program` to the one of this crate, built if need be; or ends where the words can be answered without one.
+find_program() {
+    local crate=$1
+    shift
+    program=$top/libexec/$name
+    [ ! -e "$program" ] || return 0
+    program=$top/crates/$crate/out/$crate
+    see_words "$@"
+    if [ -n "$answer" ] && ! "$top/tools/build-program" --fresh "$program"; then answer_words; fi
+    build
+}
