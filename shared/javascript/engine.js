@@ -9,7 +9,7 @@ const { Output, WORDS } = require('./output.js');
 const { Pinning } = require('./pinning.js');
 const { Processes } = require('./processes.js');
 
-const LOOKS = 200;                   // milliseconds between two looks at the memory and the threads
+const LOOKS = 200, FIRST_LOOK = 50;  // milliseconds between two looks at the memory and the threads, and before the first
 const CLOSING = 2000;                // milliseconds for its outputs to be closed, once all is ended
 const TICKS = 100;                   // of a processor in a second, as /proc counts them
 const MEGABYTE = 2 ** 20;
@@ -36,23 +36,27 @@ function collect(child, limits, endAt) {
 // Looks again and again at the processes of a run: at their memory, at their threads, and at how busy the machine is beside them.
 class Watch {
   constructor(processes, processors, limits, endAt) {
-    const began = ticksOf();
-    const own = () => processes.now().reduce((sum, { ticks }) => sum + ticks, 0) / TICKS;
-    const since = Date.now();
-    const pinning = new Pinning(processors);
+    Object.assign(this, { processes, limits, endAt });
+    this.pinning = new Pinning(processors);
+    this.began = ticksOf();
+    this.since = Date.now();
     this.load = { busy: 0, others: 0 };
-    this.timer = setInterval(() => {
-      const found = processes.now();
-      const bytes = found.reduce((sum, each) => sum + each.bytes, 0);
-      if (bytes > limits.memory * MEGABYTE) endAt(`it had more than ${limits.memory} MB of memory`);
-      pinning.look(found.map(({ pid }) => pid));
-      const busy = busySince(began);
-      const mean = own() / ((Date.now() - since) / 1000);
-      this.load = { busy: round(busy), others: round(Math.max(0, busy - mean)) };
-    }, LOOKS);
+    this.first = setTimeout(() => this.look(), FIRST_LOOK);
+    this.timer = setInterval(() => this.look(), LOOKS);
+  }
+
+  look() {
+    const found = this.processes.now();
+    const sum = (name) => found.reduce((total, each) => total + each[name], 0);
+    if (sum('bytes') > this.limits.memory * MEGABYTE) this.endAt(`it had more than ${this.limits.memory} MB of memory`);
+    this.pinning.look(found.map(({ pid }) => pid));
+    const busy = busySince(this.began);
+    const own = sum('ticks') / TICKS / ((Date.now() - this.since) / 1000);
+    this.load = { busy: round(busy), others: round(Math.max(0, busy - own)) };
   }
 
   end() {
+    clearTimeout(this.first);
     clearInterval(this.timer);
   }
 }

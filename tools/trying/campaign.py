@@ -5,20 +5,7 @@ import pathlib
 import subprocess
 
 from litmus.program import TOP
-
-SCHEMA = TOP / "docs" / "schemas" / "engine.json"
-# Debian's own Python has Debian's package, whichever runs this.
-VALIDATE = """import json, sys, jsonschema
-validator = jsonschema.Draft202012Validator(json.load(open(sys.argv[1])))
-for line in sys.stdin:
-    validator.validate(json.loads(line))
-"""
-
-
-def fits(records, schema=SCHEMA):
-    lines = "".join(json.dumps(each) + "\n" for each in records)
-    run = subprocess.run(["/usr/bin/python3", "-c", VALIDATE, schema], input=lines, capture_output=True, text=True)
-    assert run.returncode == 0, run.stderr[-600:]
+from trying.schemas import fits
 
 
 class Room:
@@ -39,7 +26,7 @@ class Room:
         return [json.loads(line) for line in self.log.read_text().splitlines()]
 
     def fits(self, records):
-        fits(records)
+        fits("engine", records)
 
     def write(self, name, text):
         (self.folder / f"{name}.lit").write_text(f"test {name.split()[0]}\n{text}")
