@@ -17,7 +17,8 @@ async function main(given) {
   if (words.help) return process.stdout.write(USAGE) && 0;
   const log = new Log(words.log);
   const engines = [];
-  for (const command of words.engines) engines.push(await engineOf(command, words['engine-id'], runEngine));
+  const asks = words.isOne && words.keep === null ? null : runEngine;
+  for (const command of words.engines) engines.push(await engineOf(command, words['engine-id'], asks));
   const campaign = new Campaign(words, engines, machineOf(words.machine), log);
   const summary = new Summary(engines.length);
   const statuses = new Set();

@@ -68,12 +68,13 @@ async function versionOf(command, runEngine) {
   return end?.status === 0 && end.limit === null && line ? plain(line.slice(0, 200)) : null;
 }
 
-// An engine as the records have it; `id` are the user's words for what a digest can't see.
+// An engine as the records have it; `id` are the user's words for what a digest can't see. Without `runEngine` it isn't asked for its
+// version.
 async function engineOf(command, id, runEngine) {
   const file = fileOf(command);
   return {
     engine: command, engine_file: file === null ? null : digestOf(file),
-    engine_version: file === null ? null : await versionOf(command, runEngine), engine_id: id,
+    engine_version: file === null || runEngine === null ? null : await versionOf(command, runEngine), engine_id: id,
   };
 }
 
