@@ -76,11 +76,11 @@ class Campaign {
       for (let pair; !isStopping() && (pair = pairs.next().value) !== undefined;) {
         const done = await this.one(pair);
         if (isStopping()) return;
-        if (!done.known) this.log.add(done.run);
         give(done);
+        if (!done.known) this.log.add(done.run);
       }
     };
-    await Promise.all(Array.from({ length: this.words.jobs }, work));
+    await Promise.all(Array.from({ length: this.words.jobs }, () => work().finally(() => pairs.return())));
   }
 
   // A run. A failure has a record too.
@@ -147,8 +147,18 @@ class Campaign {
     if (result !== 'failed' && result !== 'not allowed') return made;
     if (outside.length > 0) made.why = await reasonsOf(test, allowed.registers, outside, file);
     made.again = this.again(file, engine);
-    if (this.words.keep !== null) made.kept = keep(this.words.keep, { ...run, ...made }, { program, file, end });
+    if (this.words.keep !== null) this.keep(made, run, { program, file, end });
     return made;
+  }
+
+  // Keeps a run; where that fails the run's result is none the less one.
+  keep(made, run, what) {
+    try {
+      made.kept = keep(this.words.keep, { ...run, ...made }, what);
+    } catch (error) {
+      if (!(error instanceof Failure)) throw error;
+      made.said = [made.said, error.message].filter(Boolean).join('; ');
+    }
   }
 
   // Runs an engine on processors of its own, with the program in a folder of its own.

@@ -75,7 +75,7 @@ class Machine {
         const free = this.processors.filter((number) => !this.taken.has(number));
         const idle = free.length - Math.round(free.reduce((sum, number) => sum + (busy.get(number) ?? 0), 0));
         if (this.runs === 0 || (this.runs < this.most && agents <= idle)) {
-          const chosen = free.sort((one, other) => (busy.get(one) ?? 0) - (busy.get(other) ?? 0)).slice(0, agents);
+          const chosen = leastBusy(free, busy).slice(0, agents);
           for (const number of chosen) this.taken.set(number, true);
           this.runs += 1;
           return chosen;
@@ -89,6 +89,12 @@ class Machine {
     for (const number of processors) this.taken.delete(number);
     this.runs -= 1;
   }
+}
+
+// Processors, the least busy first; of those that are alike none comes first always, since others choose too.
+function leastBusy(processors, busy) {
+  const ranks = new Map(processors.map((number) => [number, Math.round((busy.get(number) ?? 0) * 4) + Math.random() / 2]));
+  return [...processors].sort((one, other) => ranks.get(one) - ranks.get(other));
 }
 
 // How busy all processors were since `before`, as a number of processors.

@@ -1,4 +1,4 @@
-"""Results of tests in the forms that hosted runs of tests take: a file of JUnit's XML, and annotations, lines of commands for a workflow."""
+"""Results of tests in the forms that hosted runs take: a file of JUnit's XML, and annotations, a command of a workflow on a line."""
 import re
 from xml.sax.saxutils import escape, quoteattr
 
@@ -33,7 +33,8 @@ class Junit:
     def close(self):
         with self.to:
             self.to.write('<?xml version="1.0" encoding="UTF-8"?>\n')
-            self.to.write(f'<testsuite name="jslit-check" tests="{len(self.cases)}" failures="{self.failed}" errors="0" time="{self.seconds:.4f}">\n')
+            counts = f'tests="{len(self.cases)}" failures="{self.failed}" errors="0" time="{self.seconds:.4f}"'
+            self.to.write(f'<testsuite name="jslit-check" {counts}>\n')
             self.to.writelines(self.cases)
             self.to.write("</testsuite>\n")
 
