@@ -56,7 +56,7 @@ find_program() {
     local crate=$1
     shift
     program=$top/libexec/$name
-    [ ! -e "$program" ] || return 0
+    if [ -e "$program" ]; then trap - HUP INT TERM; return; fi
     program=$top/crates/$crate/out/$crate
     see_words "$@"
     if [ -n "$answer" ] && ! "$top/tools/build-program" --fresh "$program"; then answer_words; fi
