@@ -57,6 +57,7 @@ find_program() {
     shift
     program=$top/libexec/$name
     if [ -e "$program" ]; then trap - HUP INT TERM; return; fi
+    [ -e "$top/tools/build-program" ] || fail "there is no program $program"
     program=$top/crates/$crate/out/$crate
     see_words "$@"
     if [ -n "$answer" ] && ! "$top/tools/build-program" --fresh "$program"; then answer_words; fi
