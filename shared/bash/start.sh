@@ -56,7 +56,8 @@ find_program() {
     local crate=$1
     shift
     program=$top/libexec/$name
-    [ ! -e "$program" ] || return 0
+    if [ -e "$program" ]; then trap - HUP INT TERM; return; fi
+    [ -e "$top/tools/build-program" ] || fail "there is no program $program"
     program=$top/crates/$crate/out/$crate
     see_words "$@"
     if [ -n "$answer" ] && ! "$top/tools/build-program" --fresh "$program"; then answer_words; fi

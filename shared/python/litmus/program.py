@@ -53,7 +53,11 @@ def own(installed, made, name):
     """A program of this repository, proved and built first where that is due: so it isn't asked anew before each run."""
     if installed.exists():
         return str(installed)
-    if Awaited(TOP / "tools" / "build-program", made, name, stdout=sys.stderr.fileno()).status:
+    try:
+        status = Awaited(TOP / "tools" / "build-program", made, name, stdout=sys.stderr.fileno()).status
+    except OSError:
+        status = None
+    if status != 0:
         raise Fault(f"there is no program {name}", statuses.NO_PROGRAM)
     return str(made)
 
