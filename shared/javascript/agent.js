@@ -6,18 +6,23 @@
 const COPIES = SETTINGS.copies;
 const SEED = SETTINGS.seed;
 const LOOKS = 3000;                        // looks at a step's barrier before it waits without a core
+const FEWEST = 256;                        // copies of a step where steps take long,
+const LONG = 100;                          // which is so many milliseconds
 const SILENCE = 15000;                     // milliseconds after which an agent counts as lost
 
-// Words of control: agents that came to the barrier of a step, steps' barriers that are open, whether to go on, whether
-// something went wrong, agents that have ended, whether one writes its line.
-const CAME = 0, OPEN = 1, RUNNING = 2, WRONG = 3, ENDED = 4, SAYING = 5, CONTROL_WORDS = 16;
+// Words of control: agents that came to the barrier of a step, steps' barriers that are open, copies of the next step, whether
+// something went wrong, agents that have ended, whether one writes its line, how many copies were in step.
+const CAME = 0, OPEN = 1, RUNNING = 2, WRONG = 3, ENDED = 4, SAYING = 5, IN_STEP = 6, CONTROL_WORDS = 16;
 const LINE = 16;                           // words between the barriers of two groups
+const ROUNDS = LINE;                       // how often agents come to words of a group's barrier, two for each try to line up
+const NAP = 1;                             // milliseconds that an agent sleeps there before it looks again
+const ASLEEP = 1 << 16;                    // what an agent that waits without a core adds to the word of a round
 const MOST_GROUPS = COPIES / 16;
 
 // The parts of the shared block, one after the other.
 const BARRIERS_AT = CONTROL_WORDS * 4;
 const MET_AT = BARRIERS_AT + MOST_GROUPS * LINE * 4;
-const RESULTS_AT = MET_AT + MOST_GROUPS * AGENTS * 4;
+const RESULTS_AT = MET_AT + MOST_GROUPS * 4;
 const COPIES_AT = Math.ceil((RESULTS_AT + COPIES * REGISTERS * 4) / 64) * 64;
 const COPIES_BYTES = COPIES * 192;
 const SHARED_BYTES = COPIES_AT + COPIES_BYTES;
@@ -40,12 +45,42 @@ function meet(control, count) {
   return true;
 }
 
-// The barrier of a group: 1 where all agents came while this one had patience.
-function lineUp(barriers, group, patience) {
+// Waits without a core for the others to come to a round, unless all have come before it is asleep.
+function sleepUntilAllCame(state, word) {
+  const { barriers, control } = state;
+  let seen = Atomics.load(barriers, word);
+  for (let before; seen % ASLEEP < AGENTS; seen = before) {
+    before = Atomics.compareExchange(barriers, word, seen, seen + ASLEEP);
+    if (before === seen) break;
+  }
+  const start = Date.now();
+  while (Atomics.load(barriers, word) % ASLEEP < AGENTS) {
+    if (Atomics.load(control, WRONG) !== 0) throw new Error('another agent went wrong');
+    if (Date.now() - start > SILENCE) throw new Error('another agent came to no barrier for 15 seconds');
+    Atomics.wait(barriers, word, Atomics.load(barriers, word), NAP);
+  }
+}
+
+// Comes to a round: whether all agents came to it before one fell asleep, which all see alike. The last one wakes those asleep.
+function comeTo(state, word, patience) {
+  const { barriers } = state;
+  if ((Atomics.add(barriers, word, 1) + 1) % ASLEEP === AGENTS) {
+    if (Atomics.load(barriers, word) > AGENTS) Atomics.notify(barriers, word);
+  } else {
+    let tries = 0;
+    while (tries < patience && Atomics.load(barriers, word) % ASLEEP !== AGENTS) tries += 1;
+    if (tries === patience) sleepUntilAllCame(state, word);
+  }
+  return Atomics.load(barriers, word) === AGENTS;
+}
+
+// The barrier of a group: 1 where all agents came to it, and then answered one another at once: one that the system took away
+// while it looked doesn't. Those that were let down sleep until it comes, and all try again, with more patience.
+function lineUp(state, group, patience) {
   const word = group * LINE;
-  Atomics.add(barriers, word, 1);
-  for (let tries = 0; tries < patience; tries += 1) {
-    if (Atomics.load(barriers, word) === AGENTS) return 1;
+  for (let round = 0; round < ROUNDS; round += 2) {
+    comeTo(state, word + round, round === 0 ? patience : SETTINGS.waking);
+    if (comeTo(state, word + round + 1, SETTINGS.answer)) return 1;
   }
   return 0;
 }
@@ -72,14 +107,13 @@ function runGroup(views, out, from, to, stride) {
   }
 }
 
-function runStep(state, step) {
+function runStep(state, step, copies) {
   const { group, stride, skew, patience } = settingOf(step);
   let noise = ((step + SEED) * 7919 + AGENT * 104729) % 65536;
-  let met = 1;
-  for (let place = 0; place * group < COPIES; place += 1) {
+  for (let place = 0; place * group < copies; place += 1) {
     noise = (noise * 1103515 + 12345) % 65536;
-    met = lineUp(state.barriers, place, met === 1 ? patience : SETTINGS.impatience);
-    state.met[place * AGENTS + AGENT] = met;
+    const met = lineUp(state, place, patience);
+    if (AGENT === 0) state.met[place] = met;
     if (skew > 0) delay(state.control, noise % skew);
     runGroup(state.views, state.out, place * group, (place + 1) * group, stride);
   }
@@ -106,14 +140,15 @@ function flat(node, values) {
 }
 
 // Each agent counts the outcomes of its share of the copies, and those in step.
-function countStep(state, step) {
+function countStep(state, step, copies) {
   const { group } = settingOf(step);
-  for (let number = AGENT; number < COPIES; number += AGENTS) {
+  let inStep = 0;
+  for (let number = AGENT; number < copies; number += AGENTS) {
     count(state.tally, state.out, number * REGISTERS);
-    let met = 1;
-    for (let agent = 0; agent < AGENTS; agent += 1) met &= state.met[Math.floor(number / group) * AGENTS + agent];
-    state.inStep += met;
+    inStep += state.met[Math.floor(number / group)];
   }
+  state.inStep += inStep;
+  Atomics.add(state.control, IN_STEP, inStep);
 }
 
 function viewsOf(shared) {
@@ -129,29 +164,43 @@ function stateOf(shared) {
   return {
     control: new Int32Array(shared, 0, CONTROL_WORDS),
     barriers: new Int32Array(shared, BARRIERS_AT, MOST_GROUPS * LINE),
-    met: new Int32Array(shared, MET_AT, MOST_GROUPS * AGENTS),
+    met: new Int32Array(shared, MET_AT, MOST_GROUPS),
     out: new Uint32Array(shared, RESULTS_AT, COPIES * REGISTERS),
     views: viewsOf(shared),
     tally: new Map(),
     inStep: 0,
+    begun: Date.now(),
+    stepBegun: 0,
   };
 }
 
-// Steps until the time is over: the number of steps, or -1 where something went wrong.
+// How many copies the next step has, which the first agent says: none once enough were in step or the time is over, and few where
+// a step takes long, as on a machine that is busy, so that the time's end isn't missed.
+function copiesNext(state, now) {
+  const { control, begun, stepBegun } = state;
+  state.stepBegun = now;
+  if (stepBegun === 0) return FEWEST;
+  if (now - begun >= SETTINGS.tried * 1000 || Atomics.load(control, IN_STEP) >= SETTINGS.in_step) return 0;
+  return now - stepBegun < LONG ? COPIES : FEWEST;
+}
+
+// Runs steps: how many copies they had, or -1 where another agent went wrong.
 function runSteps(state) {
   const { control } = state;
-  const end = Date.now() + SETTINGS.seconds * 1000;
+  let sum = 0;
   for (let step = 0; ; step += 1) {
-    if (AGENT === 0) Atomics.store(control, RUNNING, Date.now() < end || step === 0 ? 1 : 0);
+    if (AGENT === 0) Atomics.store(control, RUNNING, copiesNext(state, Date.now()));
     if (AGENT === step % AGENTS) {
       state.views.U8.fill(0);
       state.barriers.fill(0);
     }
     if (!meet(control, 2 * step + 1)) return -1;
-    if (Atomics.load(control, RUNNING) === 0) return step;
-    runStep(state, step);
+    const copies = Atomics.load(control, RUNNING);
+    if (copies === 0) return sum;
+    runStep(state, step, copies);
     if (!meet(control, 2 * step + 2)) return -1;
-    countStep(state, step);
+    countStep(state, step, copies);
+    sum += copies;
   }
 }
 
@@ -167,9 +216,9 @@ function sayAlone(control, line) {
 function work(shared) {
   const state = stateOf(shared);
   try {
-    const steps = runSteps(state);
-    if (steps >= 0) {
-      const line = { steps, copies: AGENT === 0 ? steps * COPIES : 0, inStep: state.inStep, seen: flat(state.tally, []) };
+    const copies = runSteps(state);
+    if (copies >= 0) {
+      const line = { copies: AGENT === 0 ? copies : 0, inStep: state.inStep, seen: flat(state.tally, []) };
       sayAlone(state.control, JSON.stringify(line));
     }
   } catch (error) {

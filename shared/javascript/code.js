@@ -65,4 +65,16 @@ function conditionCode(test) {
 const alignmentOf = (test) => Math.max(1, ...test.agents.flatMap(({ statements }) => (
   accessesOf(statements).filter(({ view }) => view !== 'DV').map(({ bits }) => bits / 8))));
 
-module.exports = { agentCode, alignmentOf, conditionCode };
+// The bytes that an access is of, from the first one.
+const bytesOf = ({ view, bits, place }) => (view === 'DV' ? [place, place + bits / 8] : [place * bits / 8, (place + 1) * bits / 8]);
+
+// Whether the order of bytes tells: an element of several bytes of a typed array is accessed otherwise too. The model's order is
+// little-endian, which a DataView has everywhere, as it is written here.
+function mixesSizes(test) {
+  const accesses = test.agents.flatMap(({ statements }) => accessesOf(statements));
+  const meet = ([from, to], [first, last]) => from < last && first < to;
+  return accesses.some((one) => one.view !== 'DV' && one.bits > 8 && accesses.some((other) => (
+    (other.view === 'DV' || other.bits !== one.bits) && meet(bytesOf(one), bytesOf(other)))));
+}
+
+module.exports = { agentCode, alignmentOf, conditionCode, mixesSizes };

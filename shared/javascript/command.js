@@ -13,7 +13,8 @@ const { readTest, registersOf } = require('./litmus.js');
 const { VARIABLE } = require('./processes.js');
 const { VERSION } = require('./version.js');
 
-const JSLIT = path.resolve(__dirname, '..', '..', 'bin', 'jslit');
+const TOP = path.resolve(__dirname, '..', '..');
+const JSLIT = path.join(TOP, 'bin', 'jslit');
 const SIGNALS = { SIGHUP: 129, SIGINT: 130, SIGQUIT: 131, SIGTERM: 143 };
 
 class Failure extends Error {
@@ -28,7 +29,7 @@ class Failure extends Error {
 function readWords(given, options) {
   const words = { ...options, paths: [] };
   for (let place = 0; place < given.length; place += 1) {
-    const [, name, value] = /^--([a-z]+)(?:=(.*))?$/s.exec(given[place]) || [];
+    const [, name, value] = /^--([a-z][a-z-]*)(?:=(.*))?$/s.exec(given[place]) || [];
     if (given[place] === '--help' || given[place] === '-h') return { help: true };
     if (given[place] === '--') return { ...words, paths: [...words.paths, ...given.slice(place + 1)] };
     if (name === undefined) words.paths.push(given[place]);
@@ -139,20 +140,36 @@ class Allowed {
       this.outcomes.push(part.outcome.values);
     } else if (part.all.kind === 'refusal') {
       const { number, name, line } = part.all;
-      throw new Failure(3, `refused ${number} ${name}${line === undefined ? '' : ` line ${line}`}`);
+      throw new Failure(1, `refused ${number} ${name}${line === undefined ? '' : ` line ${line}`}`);
     } else if (part.all.kind === 'schedule') Object.assign(this, part.all);
-    else if (part.all.kind !== 'empty') throw new Failure(3, `a report is needed, and this is of the kind ${part.all.kind}`);
+    else if (part.all.kind !== 'empty') throw new Failure(1, `a report is needed, and this is of the kind ${part.all.kind}`);
   }
 }
 
-async function read(stream, allowed) {
+// Reads a report; one that is none is a failure with this status.
+async function read(stream, allowed, status) {
   try {
     await readReport(stream, (part) => allowed.give(part), () => undefined);
   } catch (error) {
-    if (error instanceof Fault) throw new Failure(3, error.message);
+    if (error instanceof Fault) throw new Failure(status, error.message);
     throw error;
   }
 }
+
+// The program to ask: in place of bin/jslit, which looks at its sources whenever it starts, what that runs, proved and built first
+// where that is due.
+async function useProgram(program) {
+  if (path.resolve(program) !== JSLIT) return program;
+  const installed = path.join(TOP, 'libexec', 'jslit');
+  if (fs.existsSync(installed)) return installed;
+  const made = path.join(TOP, 'crates', 'jslit_cli', 'out', 'jslit_cli');
+  const { error, status } = await start(path.join(TOP, 'tools', 'build-program'), [made, 'jslit'], ['ignore', 2, 2]).ended;
+  if (error || status !== 0) throw new Failure(70, 'there is no program jslit');
+  return made;
+}
+
+// What the program's own status means to a command: its table has 3 and 4 too, and any other says that it didn't run as it should.
+const ofProgram = (status) => (status === 3 || status === 4 ? status : 70);
 
 // What the program says of a text, asked with these words.
 async function askProgram(program, words, text, limit) {
@@ -161,20 +178,20 @@ async function askProgram(program, words, text, limit) {
   child.stdin.on('error', () => {});
   child.stdin.end(text);
   const { error } = await Promise.race([ended, new Promise((done) => child.on('spawn', () => done({})))]);
-  if (error) throw new Failure(3, `the program isn't run: ${plain(error.message)}`);
+  if (error) throw new Failure(70, `the program isn't run: ${plain(error.message)}`);
   let late = false;
   const clock = limit && setTimeout(() => {
     late = true;
     stop(child, 'SIGKILL');
   }, limit * 1000);
-  await read(child.stdout, told).catch((failure) => {
+  await read(child.stdout, told, 70).catch((failure) => {
     stop(child, 'SIGTERM');
     if (!late) throw failure;
   }).finally(() => clearTimeout(clock));
   const { status, signal } = await ended;
-  if (late) throw new Failure(3, `no report within ${limit} seconds`);
+  if (late) throw new Failure(5, `no report within ${limit} seconds`);
   if (told.test === undefined || status !== 0) {
-    throw new Failure(3, `${plain(program)} gave no report, and ended with ${signal || `status ${status}`}`);
+    throw new Failure(ofProgram(status), `${plain(program)} gave no report, and ended with ${signal || `status ${status}`}`);
   }
   return told;
 }
@@ -188,7 +205,7 @@ function readText(file) {
     for (let more = 1; more > 0 && length < text.length; length += more) more = fs.readSync(from, text, length, text.length - length);
     fs.closeSync(from);
   } catch (error) {
-    throw new Failure(2, plain(error.message));
+    throw new Failure(4, plain(error.message));
   }
   return text.subarray(0, length);
 }
@@ -196,10 +213,10 @@ function readText(file) {
 // What stands in a file of a report.
 async function readReportFile(file) {
   const allowed = new Allowed();
-  await read(fs.createReadStream(file), allowed).catch((error) => {
-    throw error.syscall === undefined ? error : new Failure(2, plain(error.message));
+  await read(fs.createReadStream(file), allowed, 1).catch((error) => {
+    throw error.syscall === undefined ? error : new Failure(4, plain(error.message));
   });
-  if (allowed.verdict === undefined) throw new Failure(3, `${plain(file)} has no report`);
+  if (allowed.verdict === undefined) throw new Failure(1, `${plain(file)} has no report`);
   return allowed;
 }
 
@@ -211,11 +228,11 @@ async function testAndReport({ file, program, report, limit }) {
   const told = await askProgram(program, report === null ? [] : ['--schedule', ''], text, limit);
   const test = readTest(text.toString('latin1'));
   const allowed = report === null ? told : await readReportFile(report);
-  if (allowed.verdict === undefined) throw new Failure(3, `${plain(program)} gave no report`);
+  if (allowed.verdict === undefined) throw new Failure(70, `${plain(program)} gave no report`);
   const registers = registersOf(test).map(([agent, register]) => `${test.agents[agent].name}.${register}`);
   for (const { test: name, registers: named } of [told, allowed]) {
     if (name !== test.name || named.join() !== registers.join()) {
-      throw new Failure(3, `the report isn't of the test ${test.name} and its registers`);
+      throw new Failure(1, `the report isn't of the test ${test.name} and its registers`);
     }
   }
   return { text: text.toString('latin1'), test, allowed };
@@ -229,7 +246,10 @@ async function tellVersion(name) {
 // Runs a command's `main`, and ends with its status.
 function run(name, usage, main) {
   stopAtSignals(name);
-  process.stdout.on('error', () => process.exit(4));
+  process.stdout.on('error', (error) => {
+    if (error.code !== 'EPIPE') process.stderr.write(`${name}: ${plain(error.message)}\n`);
+    process.exit(4);
+  });
   const done = () => keeper?.stdin.end('done');
   const words = process.argv.slice(2);
   const work = words.length === 1 && words[0] === '--version' ? tellVersion(name) : main(words);
@@ -239,7 +259,7 @@ function run(name, usage, main) {
     if (stopping) return;
     process.stderr.write(`${name}: ${error instanceof Failure || error instanceof Fault ? error.message : error.stack}\n`);
     if (error.status === 2) process.stderr.write(usage);
-    process.exitCode = error.status ?? 3;
+    process.exitCode = error.status ?? (error instanceof Fault ? 1 : 70);
   });
 }
 
@@ -248,4 +268,6 @@ const isStopping = () => stopping;
 
 const grouped = (number) => String(number).replace(/\B(?=(?:[0-9]{3})+$)/g, ',');
 
-module.exports = { Allowed, Failure, JSLIT, MARK, grouped, isStopping, makeFolder, oneFile, readText, readWords, run, start, stop, testAndReport };
+module.exports = {
+  Allowed, Failure, JSLIT, MARK, grouped, isStopping, makeFolder, oneFile, readText, readWords, run, start, stop, testAndReport, useProgram,
+};

@@ -1,6 +1,6 @@
-// Workers as the engines have them: script text that program.js puts behind SCRIPTS, one script for each agent. A host
-// makes a block, starts a worker with each script and the words that call `work` with the block, and waits for them. What
-// goes wrong with a worker is said as a line of JSON, as the workers do.
+// Workers as the engines have them: script text that program.js puts behind SCRIPTS, one script for each agent, and MIXES, whether
+// the test accesses a byte in several sizes. A host makes a block, starts a worker with each script and the words that call `work`
+// with the block, and waits for them. What goes wrong with a worker is said as a line of JSON, as the workers do.
 
 // The words of control that agent.js names.
 const WRONG = 3, ENDED = 4;
@@ -47,7 +47,11 @@ function onAgentHost(agent) {
   const shared = new SharedArrayBuffer(sizeOf(SCRIPTS[0]));
   const host = typeof $262 === 'undefined' ? '$' : '$262';
   const tail = `\nlet lines = [];\nfunction say(line) { lines.push(line); }
-${host}.agent.receiveBroadcast((shared) => { work(shared); for (const line of lines) ${host}.agent.report(line); ${host}.agent.leaving(); });`;
+${host}.agent.receiveBroadcast((shared) => {
+  work(shared);
+  for (const line of lines) ${host}.agent.report(line);
+  ${host}.agent.leaving();
+});`;
   for (const script of SCRIPTS) agent.start(script + tail);
   agent.broadcast(shared);
   waitForAgents(shared, (milliseconds) => agent.sleep(milliseconds));
@@ -57,8 +61,50 @@ ${host}.agent.receiveBroadcast((shared) => { work(shared); for (const line of li
   }
 }
 
-if (typeof process === 'object' && typeof require === 'function') onNode();
-else if (typeof evalInWorker === 'function') onSpiderMonkey();
-else if (typeof $262 === 'object' && $262.agent) onAgentHost($262.agent);
-else if (typeof $ === 'object' && $.agent) onAgentHost($.agent);
-else print(JSON.stringify({ wrong: 'this engine has no workers that are known here' }));
+// The shell of V8: a worker's `getMessage` waits for a message, and gives nothing once the worker has ended.
+function onD8() {
+  const shared = new SharedArrayBuffer(sizeOf(SCRIPTS[0]));
+  const tail = `\nlet lines = [];\nfunction say(line) { lines.push(line); }
+onmessage = (message) => { work(message.data === undefined ? message : message.data); postMessage(lines.join('\\n')); };`;
+  const workers = SCRIPTS.map((script) => new Worker(script + tail, { type: 'string' }));
+  for (const worker of workers) worker.postMessage(shared);
+  workers.forEach((worker, agent) => {
+    const said = worker.getMessage();
+    print(said === undefined ? JSON.stringify({ wrong: `agent ${agent}: its worker told nothing` }) : said);
+    worker.terminate();
+  });
+}
+
+// A page: browser.js serves it, and takes its lines at /said and its end at /ended.
+function onPage() {
+  const shared = new SharedArrayBuffer(sizeOf(SCRIPTS[0]));
+  const tell = (place, text) => fetch(place, { method: 'POST', body: text });
+  const tail = `\nlet lines = [];\nfunction say(line) { lines.push(line); }
+onmessage = (message) => { work(message.data); postMessage(lines.join('\\n')); };`;
+  const saidBy = (script, agent) => new Promise((done) => {
+    const worker = new Worker(URL.createObjectURL(new Blob([script + tail], { type: 'text/javascript' })));
+    worker.onmessage = ({ data }) => done(data);
+    worker.onerror = ({ message }) => done(JSON.stringify({ wrong: `agent ${agent}: ${message}` }));
+    worker.postMessage(shared);
+  });
+  Promise.all(SCRIPTS.map(saidBy)).then((said) => tell('/said', `${said.join('\n')}\n`)).then(() => tell('/ended', ''));
+}
+
+function onSomeHost() {
+  if (typeof process === 'object' && typeof require === 'function') onNode();
+  else if (typeof evalInWorker === 'function') onSpiderMonkey();
+  else if (typeof $262 === 'object' && $262.agent) onAgentHost($262.agent);
+  else if (typeof $ === 'object' && $.agent) onAgentHost($.agent);
+  else if (typeof document === 'object') onPage();
+  else if (typeof Worker === 'function') onD8();
+  else print(JSON.stringify({ wrong: 'this engine has no workers that are known here' }));
+}
+
+// What is allowed of a test that accesses a byte in several sizes is so where the lowest byte comes first.
+if (MIXES && new Uint8Array(new Uint16Array([1]).buffer)[0] !== 1) {
+  const line = JSON.stringify({ wrong: 'this engine is big-endian, and the test has accesses of several sizes to one byte' });
+  if (typeof print === 'function') print(line);
+  else console.log(line);
+} else {
+  onSomeHost();
+}

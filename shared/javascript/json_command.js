@@ -21,9 +21,11 @@ Options:
   --version   prints the version
 
 Exit status:
-  0  all was written
-  1  an input is no report, or no JSON of one: nothing after it is read
-  2  the words are wrong
+  0   all was written
+  1   an input is no report, or no JSON of one: nothing after it is read
+  2   the words are wrong
+  4   a file can't be read, or the output fails
+  70  node isn't there
 
 Example:
   jslit litmus/sb.lit | jslit-json
@@ -104,5 +106,5 @@ main(process.argv.slice(2)).catch((error) => {
   const known = error instanceof Fault || error.code !== undefined;
   const text = known ? error.message : `the JSON isn't that of a report: ${error.message}`;
   if (error.code !== 'EPIPE') process.stderr.write(`jslit-json: ${plain(text)}\n`);
-  process.exitCode = 1;
+  process.exitCode = error.code === undefined ? 1 : 4;
 });

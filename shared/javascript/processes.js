@@ -24,7 +24,10 @@ function processOf(pid) {
   if (text === null) return null;
   const words = text.slice(text.lastIndexOf(')') + 2).split(' ');
   const [state, parent, group, session] = words;
-  return { pid, key: `${pid}:${words[19]}`, state, parent: Number(parent), group, session, bytes: Number(words[21]) * PAGE };
+  return {
+    pid, key: `${pid}:${words[19]}`, state, parent: Number(parent), group, session,
+    ticks: Number(words[11]) + Number(words[12]), bytes: Number(words[21]) * PAGE,
+  };
 }
 
 function everyProcess() {
@@ -67,11 +70,6 @@ class Processes {
     return found;
   }
 
-  // How many bytes of memory they have together.
-  bytes() {
-    return this.now().reduce((sum, { bytes }) => sum + bytes, 0);
-  }
-
   // Ends them all: again and again, since one may start another while it is looked for them.
   end() {
     for (let round = 0; round < ROUNDS; round += 1) {
@@ -89,4 +87,4 @@ class Processes {
   }
 }
 
-module.exports = { Processes, VARIABLE };
+module.exports = { Processes, VARIABLE, readOf };

@@ -3,7 +3,7 @@
 
 const fs = require('fs');
 const path = require('path');
-const { agentCode } = require('./code.js');
+const { agentCode, mixesSizes } = require('./code.js');
 const { registersOf } = require('./litmus.js');
 
 const part = (name) => fs.readFileSync(path.join(__dirname, name), 'utf8');
@@ -19,7 +19,7 @@ function agentScript(test, agent, settings) {
 // The program: the scripts as data, and the hosts, of which it takes the one that is there.
 function programOf(test, settings) {
   const scripts = test.agents.map((_, agent) => agentScript(test, agent, settings));
-  return `const SCRIPTS = ${JSON.stringify(scripts, null, 1)};\n${part('hosts.js')}`;
+  return `const SCRIPTS = ${JSON.stringify(scripts, null, 1)};\nconst MIXES = ${mixesSizes(test)};\n${part('hosts.js')}`;
 }
 
 module.exports = { programOf };

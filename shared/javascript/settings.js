@@ -4,17 +4,19 @@
 
 const { alignmentOf } = require('./code.js');
 
-function settingsOf(test, seconds, seed) {
+function settingsOf(test, { tried, in_step: inStep, seed }) {
   const alignment = alignmentOf(test);
   return {
-    seconds,
+    tried,                                   // seconds at most
+    in_step: inStep,                         // copies after which it is enough
     seed,
     copies: 2048,                            // in a step
     groups: [16, 64, 32, 256, 128],          // how many copies have one barrier
     strides: [64, Math.ceil(test.bytes / alignment) * alignment, 64 + alignment, 192],
     skews: [0, 8, 0, 40],
-    patiences: [2000, 20000, 100000],        // looks at a group's barrier before an agent goes on alone,
-    impatience: 100,                         // and where it is alone already
+    patiences: [2000, 20000, 100000],        // looks at a group's barrier before an agent sleeps,
+    waking: 1000000,                         // where it waits for others that are being woken,
+    answer: 1000,                            // and before one that came counts as taken away
   };
 }
 

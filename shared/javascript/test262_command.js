@@ -2,7 +2,7 @@
 // The command jslit-test262; README.md describes it.
 
 const { Failure, JSLIT, grouped, oneFile, readWords, run, testAndReport } = require('./command.js');
-const { agentCode, conditionCode } = require('./code.js');
+const { agentCode, conditionCode, mixesSizes } = require('./code.js');
 const { accessesOf } = require('./litmus.js');
 
 const USAGE = `jslit-test262 [--program PROGRAM] [--report FILE] FILE
@@ -18,10 +18,12 @@ Options:
   --version          prints the version
 
 Exit status:
-  0  the file was printed
-  1  the test has too many outcomes
-  2  the words are wrong, or FILE can't be read
-  3  there is no report of the test
+  0   the file was printed
+  1   the test has too many outcomes, or is refused, or its report is none
+  2   the words are wrong
+  3   memory was refused to the program
+  4   a file can't be read, or the output fails
+  70  the program isn't there or can't be run
 
 Example:
   jslit-test262 litmus/sb.lit >sb.js
@@ -60,6 +62,11 @@ function isAllowed(seen) {
   });
 }`;
 }
+
+// What guards a test that accesses a byte in several sizes: what it allows is so where the lowest byte comes first.
+const ORDER_CODE = `if (new Uint8Array(new Uint16Array([1]).buffer)[0] !== 1) {
+  throw new Test262Error("this test is for machines of little-endian order: it accesses a byte in several sizes");
+}`;
 
 const inTemplate = (code) => code.split('\n').map((line) => `  ${line}`).join('\n');
 
@@ -132,14 +139,16 @@ async function main(given) {
   if (words.help) return process.stdout.write(USAGE) && 0;
   const { text, test, allowed } = await testAndReport({ ...words, file: oneFile(words.paths) });
   if (allowed.count !== allowed.outcomes.length) {
-    throw new Failure(3, `the report says ${allowed.count} outcomes, and has ${allowed.outcomes.length}`);
+    throw new Failure(1, `the report says ${allowed.count} outcomes, and has ${allowed.outcomes.length}`);
   }
   const whole = allowed.count <= MOST_OUTCOMES;
   if (!whole && allowed.verdict !== 'never') {
     throw new Failure(1, `the test has ${grouped(allowed.count)} outcomes, and a file has ${MOST_OUTCOMES} at most; `
       + `its condition can't be checked alone, since the verdict is ${allowed.verdict}`);
   }
-  process.stdout.write([frontmatter(test, text, whole), allowedCode(test, allowed, whole), sharedCode(test), mainCode(test)].join('\n\n'));
+  const parts = [frontmatter(test, text, whole), ...(mixesSizes(test) ? [ORDER_CODE] : []), allowedCode(test, allowed, whole),
+    sharedCode(test), mainCode(test)];
+  process.stdout.write(parts.join('\n\n'));
   return 0;
 }
 

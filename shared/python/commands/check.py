@@ -1,4 +1,5 @@
-"""jslit-check [--tsv | --json] [--notes] [--record] [--jobs N] [--limit S] [--program PROGRAM] [--] [PATH ..]
+"""jslit-check [--tsv | --json] [--strict] [--junit FILE] [--annotate] [--notes] [--record] [--jobs N] [--limit S]
+  [--program PROGRAM] [--] [PATH ..]
 
 Runs the program, by default jslit, over files and over the .lit files in folders, by default those that jslit comes with.
 Where a file has a line `// expect: verdict V, outcomes N, data race R`, these are compared with what the program says;
@@ -11,6 +12,9 @@ of another form or is refused, or whose run takes too long. A folder is looked t
 Options:
   --tsv              a line of fields with tabs between them for each file, behind one of their names
   --json             a line of JSON for each file
+  --strict           a file fails too that has no line `// expect:`
+  --junit FILE       writes the results to FILE in the form of JUnit's XML
+  --annotate         says of each file that fails, where it fails, in the form that hosted runs show at the file's line
   --notes            says too where a test may not mean what one thinks: a line for each note, indented; with --json a list;
                      it doesn't go with --tsv
   --record           writes the line `// expect:` into each file that has none and a report
@@ -41,6 +45,7 @@ import sys
 sys.dont_write_bytecode = True
 sys.path.insert(0, str(pathlib.Path(__file__).resolve().parent.parent))
 from litmus.ends import run  # noqa: E402
+from litmus.hosted import Junit, annotation  # noqa: E402
 from litmus.program import TOP, built, built_why  # noqa: E402
 from litmus.runs import FIELDS, Runs, files_in, printed_name  # noqa: E402
 from litmus.words import Words  # noqa: E402
@@ -51,6 +56,9 @@ def parsed(given):
     form = parser.add_mutually_exclusive_group()
     form.add_argument("--tsv", action="store_true")
     form.add_argument("--json", action="store_true")
+    parser.add_argument("--strict", action="store_true")
+    parser.add_argument("--junit")
+    parser.add_argument("--annotate", action="store_true")
     parser.add_argument("--notes", action="store_true")
     parser.add_argument("--record", action="store_true")
     parser.add_jobs()
@@ -75,7 +83,8 @@ def main(given):
     program = built(words.program)
     if words.notes:
         built_why()
-    runs = Runs(program, words.limit, words.record, not words.path, words.notes)
+    runs = Runs(program, words.limit, words.record, words.strict or not words.path, words.notes)
+    junit = words.junit and Junit(words.junit)
     counts = {"passed": 0, "failed": 0, "seen": 0}
     if words.tsv:
         print("\t".join(FIELDS))
@@ -85,6 +94,12 @@ def main(given):
             print(result.tsv() if words.tsv else result.json(), flush=True)
         elif words.path or result.fault or result.notes:
             print(line_of(result), flush=True)
+        if words.annotate and result.fault:
+            print(annotation(result), file=sys.stderr if words.tsv or words.json else sys.stdout, flush=True)
+        if junit:
+            junit.take(result)
+    if junit:
+        junit.close()
     last = f"{counts['passed']} passed, {counts['failed']} failed"
     if counts["seen"]:
         last += f", {counts['seen']} without a line // expect"

@@ -19,7 +19,9 @@ FORM = re.compile(rb" verdict ([a-z]+), outcomes ([0-9]+), data race ([a-z]+)[ \
 NAME = re.compile(rb"^[ \t]*test[ \t]+([A-Za-z0-9_]+)", re.M)
 LAST = re.compile(rb"outcomes ([0-9]+)\nverdict ([a-z]+)\ndata race ([a-z]+)\n\Z")
 BEGINNING, END = 4096, 256  # bytes of what a run prints that are kept
-FIELDS = ("file", "test", "result", "verdict", "outcomes", "data_race", "seconds", "fault")
+FORM_OF_JSON = 1  # docs/schemas/check.json
+FIELDS = ("file", "test", "result", "verdict", "outcomes", "data_race", "seconds", "fault", "number", "word", "line")
+REFUSED = re.compile(rb"^refused ([0-9]+) ([a-z_]+)(?: line ([0-9]+))?$", re.M)
 
 
 @dataclasses.dataclass
@@ -33,6 +35,9 @@ class Result:
     data_race: str = None
     seconds: float = None
     fault: str = None
+    number: int = None  # of a refusal, with its word and line
+    word: str = None
+    line: int = None
     recorded: bool = False
     notes: list = None
 
@@ -53,7 +58,7 @@ class Result:
         if self.data_race is not None:
             kept["data_race"] = self.data_race == "yes"
         kept["notes"] = None if self.notes is None else [note._asdict() for note in self.notes]
-        return json.dumps({"jslit": version()[0], **{name: value for name, value in kept.items() if value is not None}})
+        return json.dumps({"form": FORM_OF_JSON, "jslit": version()[0], **{name: value for name, value in kept.items() if value is not None}})
 
 
 def printed_name(name):
@@ -142,6 +147,8 @@ class Runs:
         fault = self.run(text, result)
         if self.noted and not fault:
             result.notes = noting.noted(self.program, [], text, self.limit)
+        if fault and not expected:
+            return result.fails(fault)
         wanted = FORM.fullmatch(expected[0]) if len(expected) == 1 else None
         if expected and not wanted or not expected and self.stated:
             return result.fails("no line '// expect: verdict V, outcomes N, data race R'")
@@ -165,7 +172,9 @@ class Runs:
         result.seconds = round(time.monotonic() - begun, 4)
         if run.late:
             return f"no report within {self.limit:g} seconds"
-        answer = LAST.search(last)
+        answer, refused = LAST.search(last), REFUSED.match(first)
+        if refused:
+            result.number, result.word, result.line = int(refused[1]), refused[2].decode(), refused[3] and int(refused[3])
         if run.status or not answer:
             told = (first + run.said).decode("latin-1").strip().split("\n")[0] or "no report"
             return f"status {run.status}, {printed_name(told)}"

@@ -1,0 +1,89 @@
+'use strict';
+// What jslit-engine prints of runs.
+
+const { Allowed, grouped } = require('./command.js');
+const { plain } = require('./lines.js');
+const { meets } = require('./litmus.js');
+const { RESULTS } = require('./record.js');
+
+// A line of an outcome, as often as it was seen.
+function outcomeLine(registers, { values, times }, condition, mark) {
+  const places = new Map(registers.map((register, place) => [register, place]));
+  const meeting = condition && meets(condition, (agent, register) => values[places.get(`${agent}.${register}`)]);
+  const outcome = registers.map((register, place) => `${register}=${values[place]}`).join(' ');
+  return `${grouped(times).padStart(13)}  ${outcome}${meeting ? '  meets the condition' : ''}${mark}\n`;
+}
+
+// What an engineer needs where a run went wrong.
+const details = (done) => [
+  ...(done.why ?? []).map((line) => `  ${plain(line)}\n`),
+  ...(done.again === undefined ? [] : [`  again: ${plain(done.again)}\n`]),
+  ...(done.kept === undefined ? [] : [`  kept: ${plain(done.kept)}\n`])];
+
+const inStep = (done) => `in step ${grouped(done.in_step)} of ${grouped(done.copies)}`;
+
+const loaded = ({ processors, busy, others }) => `${busy} of ${processors} processors busy, ${others} of them with other work`;
+
+// The whole of one run: the outcomes of the report in its order, and then those that it doesn't have.
+function histogram({ told: { test, allowed }, run: done }, seenAlone) {
+  const times = new Map(done.seen.map((entry) => [Allowed.key(entry.values), entry.times]));
+  const entries = allowed.outcomes.map((values) => ({ values, times: times.get(Allowed.key(values)) ?? 0 }));
+  const kept = entries.filter((entry) => !seenAlone || entry.times > 0);
+  return [`test ${done.test} on ${plain(done.engine)}: ${grouped(done.copies)} copies in ${done.seconds} seconds, ${inStep(done)}\n`,
+    `${loaded(done.load)}\n`,
+    ...kept.map((entry) => outcomeLine(allowed.registers, entry, test.condition, '')),
+    ...done.not_allowed.map((entry) => outcomeLine(allowed.registers, entry, test.condition, '  NOT ALLOWED')),
+    `outcomes ${done.outcomes}, seen ${done.seen.length}, not allowed ${done.not_allowed.length}\n`,
+    ...(done.result === 'not enough' ? [`not enough: ${grouped(done.settings.in_step)} copies should be in step\n`] : []),
+    ...(done.said === undefined ? [] : [`FAILED: ${done.said}\n`]),
+    ...details(done)].join('');
+}
+
+// A run of several: a line, and one more for each outcome that is not allowed.
+function brief({ run: done, known }) {
+  const seen = done.end === undefined ? null : `seen ${done.seen.length} of ${done.outcomes}, ${inStep(done)}`;
+  const said = [done.said === undefined ? null : plain(done.said), seen].filter((part) => part !== null).join(', ');
+  const before = done.failed_before > 0 ? ', failed before' : '';
+  const lines = [`${plain(done.file)} on ${plain(done.engine)}: ${done.result}, ${said}${before}${known ? ' (of the log)' : ''}\n`];
+  for (const entry of done.not_allowed ?? []) lines.push(outcomeLine(done.registers, entry, null, '  NOT ALLOWED'));
+  return [...lines, ...details(done)].join('');
+}
+
+const counted = (number, what) => `${grouped(number)} ${what}${number === 1 ? '' : 's'}`;
+
+const sorted = (numbers) => [...numbers].sort((one, other) => one - other);
+const middleOf = (numbers) => numbers[Math.floor((numbers.length - 1) / 2)];
+
+// The sum of a campaign.
+class Summary {
+  constructor(engines) {
+    this.engines = engines;
+    this.worst = new Map();      // the worst result of each test
+    this.inStep = [];
+    this.others = [];
+    this.failedBefore = 0;
+  }
+
+  take({ run, failed }) {
+    const rank = RESULTS.indexOf(run.result);
+    this.worst.set(run.file, Math.max(rank, this.worst.get(run.file) ?? 0));
+    if (run.in_step !== undefined) this.inStep.push(run.in_step);
+    if (run.load !== undefined) this.others.push(run.load.others);
+    this.failedBefore += Number(failed);
+  }
+
+  text() {
+    const counts = RESULTS.map((result, rank) => `${result} ${[...this.worst.values()].filter((each) => each === rank).length}`);
+    const tests = `${counted(this.worst.size, 'test')} on ${counted(this.engines, 'engine')}`;
+    const lines = [`${tests}, each by its worst run: ${counts.join(', ')}`];
+    if (this.failedBefore > 0) lines.push(`failed before, by the log: ${counted(this.failedBefore, 'run')}`);
+    if (this.inStep.length > 0) {
+      const [inStep, others] = [this.inStep, this.others].map(sorted);
+      lines.push(`copies in step: ${grouped(inStep[0])} at the least, ${grouped(middleOf(inStep))} in the median`);
+      lines.push(`processors busy with other work: ${middleOf(others)} in the median, ${others.at(-1)} at the most`);
+    }
+    return lines.map((line) => `${line}\n`).join('');
+  }
+}
+
+module.exports = { Summary, brief, histogram };

@@ -1,0 +1,105 @@
+'use strict';
+// The machine that engines run on: which processors this process may use, how busy they are, and who has which. Busy is what /proc
+// says, so that it is known on Linux alone; elsewhere all processors count as free.
+
+const fs = require('fs');
+const os = require('os');
+
+const SPAN = 100;             // milliseconds that a sample has to span at least
+
+// Ticks that each processor was busy and was there, since the machine began.
+function ticksOf() {
+  let text = '';
+  try {
+    text = fs.readFileSync('/proc/stat', 'latin1');
+  } catch {
+    // There is no /proc.
+  }
+  return new Map([...text.matchAll(/^cpu([0-9]+) (.*)$/gm)].map(([, number, rest]) => {
+    const [user, nice, system, idle, wait, irq, softirq, steal] = rest.trim().split(' ').map(Number);
+    const busy = user + nice + system + irq + softirq + steal;
+    return [Number(number), { busy, all: busy + idle + wait }];
+  }));
+}
+
+// The processors that this process may use.
+function allowed() {
+  let list;
+  try {
+    list = /^Cpus_allowed_list:\s*(.*)$/m.exec(fs.readFileSync('/proc/self/status', 'latin1'))?.[1];
+  } catch {
+    // There is no /proc.
+  }
+  if (list === undefined) return os.cpus().map((_, number) => number);
+  return list.split(',').flatMap((part) => {
+    const [first, last] = part.split('-').map(Number);
+    return Array.from({ length: (last ?? first) - first + 1 }, (_, place) => first + place);
+  });
+}
+
+const pause = (milliseconds) => new Promise((done) => { setTimeout(done, milliseconds); });
+
+// How busy each of the processors was between two samples: from 0 to 1.
+function busyBetween(before, after) {
+  return new Map([...after].map(([number, { busy, all }]) => {
+    const old = before.get(number) ?? { busy, all };
+    return [number, all > old.all ? (busy - old.busy) / (all - old.all) : 0];
+  }));
+}
+
+class Machine {
+  constructor(most) {
+    this.most = most;                  // runs at a time
+    this.processors = allowed();
+    this.taken = new Map();            // processors by the run that has them
+    this.runs = 0;
+    this.ticks = ticksOf();
+    this.when = Date.now();
+  }
+
+  // How busy each processor is now.
+  async busy() {
+    if (Date.now() - this.when < SPAN) await pause(SPAN);
+    const now = ticksOf();
+    const busy = busyBetween(this.ticks, now);
+    [this.ticks, this.when] = [now, Date.now()];
+    return busy;
+  }
+
+  // The processors for a run of so many agents, those first that are least busy: as many as there are. A run waits as long as
+  // others go on that leave too few free; alone it goes in any case.
+  async take(agents) {
+    for (;;) {
+      if (this.runs < this.most) {
+        const busy = await this.busy();
+        const free = this.processors.filter((number) => !this.taken.has(number));
+        const idle = free.length - Math.round(free.reduce((sum, number) => sum + (busy.get(number) ?? 0), 0));
+        if (this.runs === 0 || (this.runs < this.most && agents <= idle)) {
+          const chosen = leastBusy(free, busy).slice(0, agents);
+          for (const number of chosen) this.taken.set(number, true);
+          this.runs += 1;
+          return chosen;
+        }
+      }
+      await pause(SPAN);
+    }
+  }
+
+  give(processors) {
+    for (const number of processors) this.taken.delete(number);
+    this.runs -= 1;
+  }
+}
+
+// Processors, the least busy first; of those that are alike none comes first always, since others choose too.
+function leastBusy(processors, busy) {
+  const ranks = new Map(processors.map((number) => [number, Math.round((busy.get(number) ?? 0) * 4) + Math.random() / 2]));
+  return [...processors].sort((one, other) => ranks.get(one) - ranks.get(other));
+}
+
+// How busy all processors were since `before`, as a number of processors.
+function busySince(before) {
+  return [...busyBetween(before, ticksOf()).values()].reduce((sum, part) => sum + part, 0);
+}
+
+module.exports = { Machine, busySince, ticksOf };

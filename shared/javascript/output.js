@@ -1,0 +1,61 @@
+'use strict';
+// What an engine printed on an output, of which no more is kept than stands here, however much it was.
+
+const { isFatal } = require('./fatal.js');
+
+const WORDS = 1000;                  // lines that may begin as JSON, of which one is meant for each agent
+const SHOWN = 4096;                  // characters that are shown and logged of what is no JSON
+const KEPT = 2 ** 20;                // characters of the beginning that are kept for `--keep`, and as many of the end
+const LINE = 4096;                   // characters of a line that are looked at for fatal words
+
+class Output {
+  constructor() {
+    this.words = [];       // the lines that begin as JSON
+    this.others = '';      // the beginning of the others
+    this.fatal = null;     // the first of them with fatal words
+    this.beginning = '';
+    this.end = '';
+    this.rest = '';
+  }
+
+  take(piece) {
+    if (this.beginning.length < KEPT) this.beginning += piece.slice(0, KEPT - this.beginning.length);
+    else this.end = (this.end + piece).slice(-KEPT);
+    const lines = piece.split('\n');
+    this.rest += lines[0];
+    for (const line of lines.slice(1)) {
+      this.line();
+      this.rest = line;
+    }
+  }
+
+  // The line that stands in `rest` has ended.
+  line() {
+    const line = this.rest;
+    this.rest = '';
+    if (line[0] === '{') {
+      if (this.words.length <= WORDS) this.words.push(line);
+      return;
+    }
+    const looked = line.slice(0, LINE);
+    if (this.fatal === null && isFatal(looked)) this.fatal = looked.slice(0, 400).trim();
+    if (this.others.length < SHOWN) this.others += `${looked}\n`;
+  }
+
+  close() {
+    if (this.rest !== '') this.line();
+    this.others = this.others.slice(0, SHOWN);
+    return this;
+  }
+
+  hasTooManyWords() {
+    return this.words.length > WORDS;
+  }
+
+  // What is kept of the whole, with a line between beginning and end where there was more.
+  kept() {
+    return this.end === '' ? this.beginning : `${this.beginning}\n[.. the beginning and the end of what was printed ..]\n${this.end}`;
+  }
+}
+
+module.exports = { Output, WORDS };
