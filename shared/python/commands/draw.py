@@ -45,7 +45,7 @@ import sys
 
 sys.dont_write_bytecode = True
 sys.path.insert(0, str(pathlib.Path(__file__).resolve().parent.parent))
-from litmus import scenes  # noqa: E402
+from litmus import scenes, statuses  # noqa: E402
 from litmus.condition import meets  # noqa: E402
 from litmus.ends import given_text, run, shown  # noqa: E402
 from litmus.processes import output_of  # noqa: E402
@@ -83,17 +83,15 @@ def sources_of(words):
     """The sources that the words name, by event."""
     wrong = next((word for word in words if not re.fullmatch(rf"{ACCESS}={SOURCE}(?:,{SOURCE})*", word, re.ASCII)), None)
     if wrong is not None:
-        raise Fault(f"{shown(wrong)} is no EVENT=SOURCE, such as A.1=init[0] or B.0=A.0,A.0")
+        raise Fault(f"{shown(wrong)} is no EVENT=SOURCE, such as A.1=init[0] or B.0=A.0,A.0", statuses.WORDS)
     sources = {event: given.split(",") for event, given in (word.split("=") for word in words)}
     if len(sources) < len(words):
-        raise Fault("each read is named once")
+        raise Fault("each read is named once", statuses.WORDS)
     return sources
 
 
 def reported(program, name, data, words):
     """The values and sources of the outcome that is asked for."""
-    if len(words) > 1 or words and not re.fullmatch("[0-9]{1,15}", words[0]):
-        raise Fault("after the file stands one number of an outcome, or EVENT=SOURCE for each read")
     examples, condition = read_report(program, name, data), read_test(data.decode("latin-1")).condition
     met = [k for k, (values, _) in enumerate(examples)
            if meets(condition, {tuple(register.split(".")): value for register, value in values.items()})]
@@ -118,6 +116,8 @@ def parsed(given):
         parser.error("--unmet goes with --why")
     if words.which and (words.why or words.race):
         parser.error("after the file nothing stands with --why and --race")
+    if not any("=" in word for word in words.which) and (len(words.which) > 1 or words.which and not re.fullmatch("[0-9]{1,15}", words.which[0])):
+        parser.error("after the file stands one number of an outcome, or EVENT=SOURCE for each read")
     return words
 
 
@@ -126,7 +126,8 @@ def drawing_of(words, data):
         why = built_why()
         return scenes.attempt(why, words.unmet, words.file, data) if words.why else scenes.race(why, words.file, data)
     if any("=" in word for word in words.which):
-        return scenes.chosen(built_why(), sources_of(words.which), words.file, data)
+        sources = sources_of(words.which)
+        return scenes.chosen(built_why(), sources, words.file, data)
     values, sources = reported(built(words.program), words.file, data, words.which)
     return scenes.example(built_why(), sources, values, words.file, data)
 
