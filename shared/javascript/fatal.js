@@ -12,7 +12,7 @@ const WORDS = [
   /\b(?:segmentation fault|bus error|illegal instruction|stack smashing detected|core dumped)\b/i, /^Aborted\b/,
   /\bTrace\/breakpoint trap\b/, /\b(?:received|caught) signal\b/i, /\bSIG(?:SEGV|ABRT|BUS|ILL|FPE|TRAP)\b/,
   /\bdouble free\b/i, /\b(?:malloc|free|realloc|munmap_chunk)\(\): /, /\bcorrupted (?:size|double-linked|unsorted)/,
-  /\bout of memory\b/i,
+  /\bout of memory\b/i, /\bterminate called\b/, /\bpure virtual method called\b/, /\bInvalid (?:read|write) of size\b/,
 ];
 
 const isFatal = (line) => WORDS.some((word) => word.test(line));

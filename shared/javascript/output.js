@@ -20,7 +20,8 @@ class Output {
 
   take(piece) {
     if (this.beginning.length < KEPT) this.beginning += piece.slice(0, KEPT - this.beginning.length);
-    else this.end = (this.end + piece).slice(-KEPT);
+    else this.end += piece;
+    if (this.end.length > 4 * KEPT) this.end = this.end.slice(-KEPT);
     const lines = piece.split('\n');
     this.rest += lines[0];
     for (const line of lines.slice(1)) {
@@ -54,7 +55,7 @@ class Output {
 
   // What is kept of the whole, with a line between beginning and end where there was more.
   kept() {
-    return this.end === '' ? this.beginning : `${this.beginning}\n[.. the beginning and the end of what was printed ..]\n${this.end}`;
+    return this.end === '' ? this.beginning : `${this.beginning}\n[.. the beginning and the end of what was printed ..]\n${this.end.slice(-KEPT)}`;
   }
 }
 
