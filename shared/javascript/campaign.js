@@ -130,7 +130,7 @@ class Campaign {
     if (allowed.count !== allowed.outcomes.length) {
       process.stderr.write(`jslit-engine: the report says ${allowed.count} outcomes, and has ${allowed.outcomes.length}\n`);
     }
-    const settings = settingsOf(test, this.settings);
+    const settings = settingsOf(test, this.settings, this.machine.processors.length);
     const program = programOf(test, settings);
     const { end, seconds } = await this.started(engine.engine, program, test.agents.length);
     const { seen, copies, inStep, failure } = toldBy(end, test.agents.length, allowed.registers.length);

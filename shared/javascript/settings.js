@@ -4,7 +4,8 @@
 
 const { alignmentOf } = require('./code.js');
 
-function settingsOf(test, { tried, in_step: inStep, seed }) {
+// On a machine of so many processors; more agents than these never run at a time, and don't wait for it.
+function settingsOf(test, { tried, in_step: inStep, seed }, processors) {
   const alignment = alignmentOf(test);
   return {
     tried,                                   // seconds at most
@@ -15,7 +16,7 @@ function settingsOf(test, { tried, in_step: inStep, seed }) {
     strides: [64, Math.ceil(test.bytes / alignment) * alignment, 64 + alignment, 192],
     skews: [0, 8, 0, 40],
     patiences: [2000, 20000, 100000],        // looks at a group's barrier before an agent sleeps,
-    waking: 1000000,                         // where it waits for others that are being woken,
+    waking: test.agents.length > processors ? 100 : 1000000,   // where it waits for others that are being woken,
     answer: 1000,                            // and before one that came counts as taken away
   };
 }
