@@ -26,14 +26,14 @@ async function askWhy(condition, file) {
   return status === 0 ? said.trimEnd().split('\n').slice(0, LINES) : null;
 }
 
-// Lines on the first of these outcomes.
+// Lines on the first of these outcomes, each with its condition in place of the test's name.
 async function reasonsOf(test, registers, outside, file) {
   if (!BUILT.some((program) => fs.existsSync(program))) return [];
   const lines = [];
   for (const { values } of outside.slice(0, MOST)) {
     const condition = registers.length === 0 ? null : conditionOf(registers, values);
     const said = condition === null ? null : await askWhy(condition, file);
-    if (said !== null) lines.push(...said);
+    if (said !== null) lines.push(`${condition}:`, ...said.slice(1));
   }
   return lines;
 }
