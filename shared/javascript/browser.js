@@ -52,7 +52,7 @@ function withBrowser(address, server) {
     const messages = (rest + piece).split('\0');
     rest = messages.pop();
     if (messages.some((message) => JSON.parse(message).method === 'Target.targetCrashed')) {
-      process.stderr.write('the page crashed\n');
+      process.stderr.write('fatal: the page crashed\n');
       process.exit(1);
     }
   });

@@ -6,6 +6,8 @@ const { plain } = require('./lines.js');
 const { meets } = require('./litmus.js');
 const { RESULTS } = require('./record.js');
 
+const SHOWN = 8;   // lines of an engine's standard error
+
 // A line of an outcome, as often as it was seen.
 function outcomeLine(registers, { values, times }, condition, mark) {
   const places = new Map(registers.map((register, place) => [register, place]));
@@ -14,8 +16,11 @@ function outcomeLine(registers, { values, times }, condition, mark) {
   return `${grouped(times).padStart(13)}  ${outcome}${meeting ? '  meets the condition' : ''}${mark}\n`;
 }
 
+const linesOf = (text) => text.split('\n').filter(Boolean).slice(0, SHOWN).map((line) => line.slice(0, 200));
+
 // What an engineer needs where a run went wrong.
 const details = (done) => [
+  ...(done.said === undefined || done.end === undefined ? [] : linesOf(done.end.stderr).map((line) => `  stderr: ${plain(line)}\n`)),
   ...(done.why ?? []).map((line) => `  ${plain(line)}\n`),
   ...(done.again === undefined ? [] : [`  again: ${plain(done.again)}\n`]),
   ...(done.kept === undefined ? [] : [`  kept: ${plain(done.kept)}\n`])];

@@ -15,6 +15,10 @@ const WORDS = [
   /\bout of memory\b/i, /\bterminate called\b/, /\bpure virtual method called\b/, /\bInvalid (?:read|write) of size\b/,
 ];
 
-const isFatal = (line) => WORDS.some((word) => word.test(line));
+// Where such words stand in a line first, or -1.
+function fatalAt(line) {
+  const places = WORDS.map((word) => line.search(word)).filter((place) => place >= 0);
+  return places.length === 0 ? -1 : Math.min(...places);
+}
 
-module.exports = { isFatal };
+module.exports = { fatalAt };

@@ -1,12 +1,13 @@
 'use strict';
 // What an engine printed on an output, of which no more is kept than stands here, however much it was.
 
-const { isFatal } = require('./fatal.js');
+const { fatalAt } = require('./fatal.js');
 
 const WORDS = 1000;                  // lines that may begin as JSON, of which one is meant for each agent
 const SHOWN = 4096;                  // characters that are shown and logged of what is no JSON
 const KEPT = 2 ** 20;                // characters of the beginning that are kept for `--keep`, and as many of the end
-const LINE = 4096;                   // characters of a line that are looked at for fatal words
+const LINE = 4096, AGAIN = 400;      // characters of a line that are looked at at a time, and those of them once more
+const BEFORE = 100, BEHIND = 300;    // characters that are shown of a line with fatal words
 
 class Output {
   constructor() {
@@ -38,9 +39,12 @@ class Output {
       if (this.words.length <= WORDS) this.words.push(line);
       return;
     }
-    const looked = line.slice(0, LINE);
-    if (this.fatal === null && isFatal(looked)) this.fatal = looked.slice(0, 400).trim();
-    if (this.others.length < SHOWN) this.others += `${looked}\n`;
+    for (let at = 0; this.fatal === null && (at === 0 || at + AGAIN < line.length); at += LINE - AGAIN) {
+      const part = line.slice(at, at + LINE);
+      const place = fatalAt(part);
+      if (place >= 0) this.fatal = part.slice(Math.max(0, place - BEFORE), place + BEHIND).trim();
+    }
+    if (this.others.length < SHOWN) this.others += `${line.slice(0, SHOWN)}\n`;
   }
 
   close() {

@@ -7,6 +7,7 @@ HOIST = r"s/(r0 = Atomics\.load\([^)]*\);)\\n  (r1 = [^;]*;)/\2\\n  \1/"
 WORD = r"s/U32\[word \+ (\d+)\] = (\d+);/"
 BYTES = WORD + r"my ($p, $v) = ($1 * 4, $2); join(' ', map { sprintf('U8[base + %d] = %d;', $p + $_, ($v >> (8 * $_)) & 255) } 0 .. 3)/ge"
 HALVES = WORD + r"sprintf('U16[(base >> 1) + %d] = %d; U16[(base >> 1) + %d] = %d;', $1 * 2, $2 & 65535, $1 * 2 + 1, $2 >> 16)/ge"
+DOTS = "head -c 100000 /dev/zero | tr '\\0' '.' >&2"
 NOISE = "head -c 3000000 /dev/zero | tr '\\0' '.' | fold -w 80 >&2"
 
 
@@ -26,6 +27,7 @@ ENGINES = {
     "assertion": "node \"$1\"; echo \"node: src/heap.cc:7: void f(): Assertion \\`x' failed.\" >&2",
     "fatal": "node \"$1\"; echo '# Fatal error in ../src/heap.cc, line 7' >&2",
     "late-words": f"node \"$1\"; {NOISE}; echo 'SUMMARY: LeakSanitizer: 7 bytes leaked' >&2",
+    "words-in-a-long-line": f"node \"$1\"; {DOTS}; echo ' ERROR: MemorySanitizer: use-of-uninitialized-value' >&2",
     "status-66": "node \"$1\"; exit 66",
     "sigsegv": "node \"$1\"; kill -SEGV $$",
     "hang": "node \"$1\"; exec sleep 98801",
