@@ -20,8 +20,9 @@ class Output {
   }
 
   take(piece) {
-    if (this.beginning.length < KEPT) this.beginning += piece.slice(0, KEPT - this.beginning.length);
-    else this.end += piece;
+    const room = KEPT - this.beginning.length;
+    if (room > 0) this.beginning += piece.slice(0, room);
+    if (piece.length > room) this.end += piece.slice(room);
     if (this.end.length > 4 * KEPT) this.end = this.end.slice(-KEPT);
     const lines = piece.split('\n');
     this.rest += lines[0];
@@ -59,7 +60,8 @@ class Output {
 
   // What is kept of the whole, with a line between beginning and end where there was more.
   kept() {
-    return this.end === '' ? this.beginning : `${this.beginning}\n[.. the beginning and the end of what was printed ..]\n${this.end.slice(-KEPT)}`;
+    if (this.end === '') return this.beginning;
+    return `${this.beginning}\n[.. between the beginning and the end of what was printed ..]\n${this.end.slice(-KEPT)}`;
   }
 }
 
