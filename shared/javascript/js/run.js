@@ -20,6 +20,13 @@ class Ends extends Error {}   // a run ends here, whatever the code would do nex
 const isRead = (op) => op !== 'write';
 const keyOf = ({ block, first, size }) => `${block} ${first} ${size}`;
 
+// What an access that was made writes, or null.
+function writtenBy({ op, value, expected, next, got }) {
+  if (!isRead(op) || op === 'exchange') return value;
+  if (op === 'cas') return got === expected ? value : null;
+  return op === 'modify' ? next(got) : null;
+}
+
 // A realm with shared memory in it, whose accesses go to the run that has it.
 class Room {
   constructor() {
@@ -100,7 +107,7 @@ class Run {
       return 0;
     }
     if (this.given < this.values.length) event.got = this.values[this.given];
-    else if (this.setting.answer) event.got = this.setting.answer(event);
+    else if (this.setting.answer) event.got = this.setting.answer(event, this.events);
     else this.end('pause');
     this.given += 1;
     this.count(event);
@@ -115,8 +122,7 @@ class Run {
   // Whether a read-modify-write has changed anything: what writes just what it read may be left out as a read may, but only
   // where all accesses of its bytes are atomic and of one range.
   count(event) {
-    const made = event.op === 'exchange' || (event.op === 'cas' && event.got === event.expected) ? event.value
-      : event.op === 'modify' ? event.next(event.got) : null;
+    const made = writtenBy(event);
     if (made === null) return;
     if (made !== event.got) this.writes += 1;
     else if (this.setting.mixed.has(keyOf(event))) this.same += 1;
@@ -331,4 +337,4 @@ class Run {
   }
 }
 
-module.exports = { Ends, MOST, Room, Run, isRead, keyOf };
+module.exports = { Ends, MOST, Room, Run, isRead, keyOf, writtenBy };

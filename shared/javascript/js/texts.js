@@ -242,8 +242,8 @@ class Texts {
   }
 }
 
-// The way through a tree that the registers of an outcome tell: {leaf, notified} or {unknown: the values up to one that no kid has}; null
-// where it is of another part, or dropped.
+// The way through a tree that the registers of an outcome tell: {leaf, notified}, {unknown: the values up to one that no kid has} or
+// {isStuck} where nobody wakes the agent; null where it is of another part, or dropped.
 function walk(tree, layout, wakes, part, registers) {
   const values = [];
   const notified = new Map();
@@ -252,7 +252,7 @@ function walk(tree, layout, wakes, part, registers) {
   for (let node = tree.root; ;) {
     if (node.leaf) return { leaf: node.leaf, notified };
     const { event, kids } = node;
-    if (wakes.isBeyond(event, tree.name)) return null;
+    if (wakes.isBeyond(event, tree.name)) return { isStuck: true };
     if (!kids) {
       if (event.notifies !== undefined) notified.set(event.first, (notified.get(event.first) ?? 0) + event.notifies);
       node = node.next;

@@ -5,7 +5,7 @@
 // agent that it may give a byte to, and so back. Any accesses whose ranges share a byte may be in a ring, but one whose every read
 // synchronizes, so of atomics of equal range, is a cycle in happens-before.
 
-const { isRead, keyOf } = require('./run.js');
+const { isRead, keyOf, writtenBy } = require('./run.js');
 const { Refusal } = require('./refusal.js');
 
 const MOST_RUNS = 120;         // reads of one agent, with a value each
@@ -19,14 +19,6 @@ const cut = (value, size) => ((Math.trunc(value) % 256 ** size) + 256 ** size) %
 const overlaps = (a, b) => a.block === b.block && a.first < b.first + b.size && b.first < a.first + a.size;
 const isSame = (a, b) => a.first === b.first && a.size === b.size;
 const synchronizes = (write, read) => write.sc && read.sc && isSame(write, read);
-
-// What an event writes, or undefined.
-function writtenBy(event) {
-  if (!isRead(event.op)) return event.value;
-  if (event.got === undefined) return undefined;
-  if (event.op === 'modify') return event.next(event.got);
-  return event.op === 'exchange' || (event.op === 'cas' && event.got === event.expected) ? event.value : undefined;
-}
 
 // Reads as nodes of a graph: {agent, event, value, writes (what its agent writes from there on), path}. `path` are the values that
 // lead to a read whose value isn't known there; it is null of the others.
@@ -73,7 +65,7 @@ class Reads {
     this.see(event, value);
     const more = [...reads, this.add(agent, event, value, null, `${keyOf(event)} ${value} ${event.sc}`)];
     const written = writtenBy({ ...event, got: value });
-    if (written !== undefined) {
+    if (written !== null) {
       this.see(event, written);
       this.write(more, event, written);
     }
@@ -134,8 +126,8 @@ class Reads {
     const path = values.slice(0, at + 1);
     const node = this.add(agent, read, values[at], path, path.join());
     for (const event of run.events.slice(run.events.indexOf(read))) {
-      const written = writtenBy(event);
-      if (written !== undefined) this.write([node], event, written);
+      const written = event.got === undefined && isRead(event.op) ? null : writtenBy(event);
+      if (written !== null) this.write([node], event, written);
     }
   }
 

@@ -5,7 +5,8 @@
 const vm = require('vm');
 const { instrument } = require('./instrument.js');
 const { Refusal } = require('./refusal.js');
-const { Room, Run, isRead, keyOf } = require('./run.js');
+const { REGISTERS } = require('./limits.js');
+const { Room, Run, isRead, keyOf, writtenBy } = require('./run.js');
 
 const MOST_RUNS = 3000;
 
@@ -102,6 +103,34 @@ class Tree {
   }
 }
 
+// What a read gets where its agent runs alone.
+function aloneIn(setting) {
+  return (read, events) => {
+    if (['wake', 'receive', 'choice'].includes(read.op)) return 0;
+    const bytes = Array.from({ length: read.size }, (_, place) => setting.initial(read.block, read.first + place));
+    for (const event of events) {
+      const written = event === read || event.block !== read.block ? null : writtenBy(event);
+      for (let place = 0; written !== null && place < event.size; place += 1) {
+        const at = event.first + place - read.first;
+        if (at >= 0 && at < read.size) bytes[at] = Math.floor(written / 256 ** place) % 256;
+      }
+    }
+    return bytes.reduceRight((value, byte) => value * 256 + byte, 0);
+  };
+}
+
+// An agent that is too long alone is so in any case: that is told before anything is asked.
+function seeAlone({ program, role, setting, name }) {
+  const { events } = new Run(program, role, [], { ...setting, answer: aloneIn(setting) }).go();
+  const reads = events.filter(({ op }) => isRead(op) && op !== 'choice');
+  if (reads.length > REGISTERS) throw tooManyReads(name, reads);
+}
+
+function tooManyReads(name, reads) {
+  const last = reads[REGISTERS];
+  return new Refusal(`the agent ${name} reads more than ${REGISTERS} values on one way, here the next: take fewer turns, or a part of it`, last.at);
+}
+
 // All accesses that were seen: whether those of a range share bytes with others, or aren't atomic.
 class Setting {
   constructor(mixed) {
@@ -149,6 +178,7 @@ function plant(program, mixed = new Set()) {
   const list = starts.map((role) => new Tree(program, role, setting));
   if (!setting.isAlone) list.push(new Tree(program, null, setting));
   list.forEach((tree) => tree.grow([]));
+  list.forEach(seeAlone);
   return { setting, list: list.filter((tree) => tree.role || !tree.root.leaf || tree.root.leaf.logs.length) };
 }
 

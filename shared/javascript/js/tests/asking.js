@@ -46,7 +46,16 @@ function agentsOf(source, allTurns, main = 'main.js') {
   const program = programOf(source, main);
   const { list, setting } = plant(program);
   const free = { ...setting, allTurns, most: 400 };
-  return { names: list.map(({ name }) => name), runs: list.map(({ role }) => (values) => new Run(program, role, values, free).go()), setting };
+  return { names: list.map(({ name }) => name), runs: list.map(({ role }) => kept((values) => new Run(program, role, values, free).go())), setting };
+}
+
+function kept(run) {
+  const known = new Map();
+  return (values) => {
+    const key = values.join();
+    if (!known.has(key)) known.set(key, run(values));
+    return known.get(key);
+  };
 }
 
 // The text of an outcome, by the leaves of all agents.
