@@ -41,7 +41,7 @@ Example:
 const CHILD = path.join(__dirname, 'child.js');
 const TOP = path.resolve(__dirname, '..', '..', '..');
 const READ = [path.join(TOP, 'shared', 'javascript', '*'), path.join(TOP, 'crates', '*'), '/usr/share/nodejs/*', '/usr/lib/nodejs/*'];
-const MEMORY = 1024;       // MB of the code's heap
+const MEMORY = 512;        // MB of the code's heap
 const SILENCE = 2000;      // milliseconds before there is a sign of life
 const RUNS = Math.max(1, os.cpus().length);   // of the program, at a time
 

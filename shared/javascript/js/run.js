@@ -10,7 +10,7 @@ const { Refusal } = require('./refusal.js');
 const { States } = require('./state.js');
 const { NoData, dataOf, valueOf } = require('./values.js');
 
-const PATIENCE = 3000;   // milliseconds that a run may take
+const PATIENCE = 5000;   // milliseconds that a run may take
 const MOST = 24;         // accesses of a run, as the program has it of all agents together
 const INSTALL = new vm.Script(`(${install})`, { filename: 'memory.js' });
 Error.stackTraceLimit = 60;
@@ -320,7 +320,7 @@ class Run {
       return;
     }
     if (error?.code === 'ERR_SCRIPT_EXECUTION_TIMEOUT') {
-      this.refused = new Refusal(`${this.role ? `the agent ${this.role.name}` : 'main'} runs for three seconds without an end`, null);
+      this.refused = new Refusal(`${this.role ? `the agent ${this.role.name}` : 'main'} runs for five seconds without an end`, null);
       return;
     }
     const found = /user:(.*?):(\d+)/.exec(String(error?.stack));

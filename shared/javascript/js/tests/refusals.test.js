@@ -42,7 +42,7 @@ const REFUSED = [
   ['no JavaScript', `${HEAD}agents({ A() { return b[0] } };`, 2, 'isn\'t read as JavaScript'],
   ['TypeScript', `${HEAD}const x: number = 1;`, 2, 'the types have to go first'],
   ['an agent that never ends', agents('for (;;) { }'), 2, 'never ends'],
-  ['an agent that runs and runs', agents('let x = 0; for (;;) { x += 1; }'), null, 'three seconds without an end'],
+  ['an agent that runs and runs', agents('let x = 0; for (;;) { x += 1; }'), null, 'five seconds without an end'],
   ['a name that is nowhere', agents('return helper(b[0]);'), 2, '`helper` is declared nowhere'],
   ['a file that isn\'t given', 'const { Worker } = require("worker_threads");\nnew Worker("./other.js", { workerData: new SharedArrayBuffer(1) });', null, 'the file other.js isn\'t given'],
   ['a module of Node', 'require("fs");', 1, '`require("fs")` isn\'t followed'],
