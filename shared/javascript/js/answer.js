@@ -65,8 +65,10 @@ function answerOf(names, ended, asked) {
   const check = asked && new Check(asked);
   const outcomes = new Map();
   for (const leaves of ended) {
-    const text = leaves.map((leaf, place) => [names[place], told(leaf)]).filter(([, words]) => words !== '').map(([name, words]) => `${name}: ${words}`).join('   ');
-    const holds = leaves.every(({ failed, end }) => failed.length === 0 && end !== 'assert') && (check === null || check.holds(names, leaves));
+    const text = leaves.map((leaf, place) => [names[place], told(leaf)]).filter(([, words]) => words !== '')
+      .map(([name, words]) => `${name}: ${words}`).join('   ');
+    const holds = leaves.every(({ failed, end }) => failed.length === 0 && end !== 'assert')
+      && (check === null || check.holds(names, leaves));
     const isPerhaps = leaves.some((leaf) => leaf.isPerhaps);
     const known = outcomes.get(text);
     if (known) Object.assign(known, { isPerhaps: known.isPerhaps && isPerhaps, holds: known.holds && holds });
@@ -80,14 +82,19 @@ function answerOf(names, ended, asked) {
 
 function linesOf(answer, { texts, race, notes }) {
   const { outcomes, verdict } = answer;
-  const lines = outcomes.map(({ text, holds, isPerhaps }) => `outcome  ${text || '(nothing is returned or printed)'}${holds ? '' : '   FAILS'}${isPerhaps ? '   (perhaps)' : ''}`);
+  const lines = outcomes.map(({ text, holds, isPerhaps }) =>
+    `outcome  ${text || '(nothing is returned or printed)'}${holds ? '' : '   FAILS'}${isPerhaps ? '   (perhaps)' : ''}`);
   lines.push(`outcomes ${outcomes.length}`);
-  if (verdict !== null) lines.push(`check ${verdict}${verdict === 'always' ? '' : `, fails in ${outcomes.filter(({ holds }) => !holds).length} of ${outcomes.length}`}`);
+  if (verdict !== null) lines.push(
+    `check ${verdict}${verdict === 'always' ? '' : `, fails in ${outcomes.filter(({ holds }) => !holds).length} of ${outcomes.length}`}`);
   lines.push(`data race ${race ? 'yes' : 'none found'}`);
   if (outcomes.length === 0) lines.push('note: no execution ends: each has a loop that waits for what no agent does');
   for (const note of notes) lines.push(`note: ${note}`);
-  if (outcomes.some(({ isPerhaps }) => isPerhaps)) lines.push('note: of Atomics.wait and notify the wake-ups are followed, and not the queue: what is marked (perhaps) may be impossible');
-  lines.push(`proved: the outcomes of ${texts === 1 ? 'one text' : `${texts} texts`} (--text prints ${texts === 1 ? 'it' : 'them'}); tested, not proved: that these are this program. Executions that end are listed, no others.`);
+  if (outcomes.some(({ isPerhaps }) => isPerhaps)) lines.push(
+    'note: of Atomics.wait and notify the wake-ups are followed, and not the queue: what is marked (perhaps) may be impossible');
+  const [of, them] = texts === 1 ? ['one text', 'it'] : [`${texts} texts`, 'them'];
+  lines.push(`proved: the outcomes of ${of} (--text prints ${them}); tested, not proved: that these are this program. `
+    + 'Executions that end are listed, no others.');
   return lines;
 }
 

@@ -33,7 +33,8 @@ class Asking {
     const { done, failed } = this.waiting.get(ask);
     this.waiting.delete(ask);
     if (refused === undefined) done(report);
-    else failed(new Refusal(WORDS[refused] ? `${WORDS[refused]}: take fewer agents, turns or accesses` : `the program refuses a text that was made of this (${refused}): please report it`));
+    else if (WORDS[refused]) failed(new Refusal(`${WORDS[refused]}: take fewer agents, turns or accesses`));
+    else failed(new Refusal(`the program refuses a text that was made of this (${refused}): please report it`));
   }
 }
 

@@ -63,7 +63,8 @@ function read(file) {
 
 function secondsOf(words, name) {
   const seconds = Number(words[name]);
-  if (!/^[0-9]+(\.[0-9]+)?$/.test(words[name]) || seconds <= 0 || seconds > 86400) throw new Failure(2, `--${name} is a number of seconds up to 86400`);
+  if (!/^[0-9]+(\.[0-9]+)?$/.test(words[name]) || seconds <= 0 || seconds > 86400) throw new Failure(2,
+    `--${name} is a number of seconds up to 86400`);
   return seconds;
 }
 
@@ -89,7 +90,8 @@ class Sources {
   // Where something is, as the user knows it.
   place(file, line) {
     if (line === null) return plain(file);
-    if (file === this.main && this.harness && line >= this.harness.from) return `${plain(this.harness.name)}:${line - this.harness.from + 1}`;
+    if (file === this.main && this.harness
+      && line >= this.harness.from) return `${plain(this.harness.name)}:${line - this.harness.from + 1}`;
     return `${plain(file)}:${line}`;
   }
 
@@ -133,7 +135,8 @@ class Asked {
     if (late) throw new Failure(5, `the program gave no report on a text within ${this.limit} seconds (--limit)`);
     if (error) throw new Failure(70, `the program isn't run: ${plain(error.message)}`);
     if (status === 3) throw new Failure(3, 'the program ran out of memory');
-    if (signal || (status !== 0 && status !== 1)) throw new Failure(70, `${plain(this.program)} gave no report, and ended with ${signal || `status ${status}`}`);
+    if (signal || (status !== 0 && status !== 1)) throw new Failure(70,
+      `${plain(this.program)} gave no report, and ended with ${signal || `status ${status}`}`);
     return reportOf(Buffer.concat(pieces).toString('latin1'));
   }
 }
@@ -154,8 +157,10 @@ function reportOf(printed) {
 // Lets the child go on with its code until it has told an answer or a refusal, or has ended otherwise.
 async function carriedOut(sources, asked, time) {
   const rights = rightsOf(process.versions.node);
-  if (rights === null) process.stderr.write(`jslit-js: Node ${process.versions.node} runs the code with all rights; Node 20 or later with few\n`);
-  const { child, ended } = start(process.execPath, [...rights ?? [], '--no-warnings', `--max-old-space-size=${MEMORY}`, '--stack-size=900', CHILD], ['pipe', 'pipe', 'pipe']);
+  if (rights === null) process.stderr.write(
+    `jslit-js: Node ${process.versions.node} runs the code with all rights; Node 20 or later with few\n`);
+  const { child, ended } = start(process.execPath,
+    [...rights ?? [], '--no-warnings', `--max-old-space-size=${MEMORY}`, '--stack-size=900', CHILD], ['pipe', 'pipe', 'pipe']);
   child.stdin.on('error', () => {});
   const name = sources.main.replace(/\.\w+$/, '').replace(/\W/g, '_').replace(/^(?=\d)/, '_').slice(0, 32) || '_';
   const tell = (told) => child.stdin.write(`${JSON.stringify(told)}\n`);
@@ -183,9 +188,11 @@ async function carriedOut(sources, asked, time) {
 }
 
 function diedOf(said, signal, status) {
-  if (/heap out of memory|allocation failed|invalid size/i.test(said)) return new Failure(3, `the code ran out of memory: it has ${MEMORY} MB`);
+  if (/heap out of memory|allocation failed|invalid size/i.test(said)) return new Failure(3,
+    `the code ran out of memory: it has ${MEMORY} MB`);
   const line = said.split('\n').find((each) => /^\w*Error\b/.test(each)) ?? '';
-  return new Failure(70, `the code was not followed to its end: its process ended with ${signal || `status ${status}`}${line ? `: ${plain(line)}` : ''}`);
+  return new Failure(70,
+    `the code was not followed to its end: its process ended with ${signal || `status ${status}`}${line ? `: ${plain(line)}` : ''}`);
 }
 
 // A line that renews itself where standard error is a terminal.
@@ -193,7 +200,8 @@ function signOfLife(asked) {
   if (!process.stderr.isTTY) return () => undefined;
   const began = Date.now();
   const clock = setInterval(() => {
-    if (Date.now() - began >= SILENCE) process.stderr.write(`\r\x1b[Kjslit-js: ${asked.count} texts asked, ${Math.round((Date.now() - began) / 1000)} seconds`);
+    if (Date.now() - began >= SILENCE) process.stderr.write(
+      `\r\x1b[Kjslit-js: ${asked.count} texts asked, ${Math.round((Date.now() - began) / 1000)} seconds`);
   }, 500);
   return () => {
     clearInterval(clock);
@@ -209,7 +217,8 @@ async function main(given) {
   const asked = new Asked(path.resolve(words.program), limit);
   const ended = signOfLife(asked);
   const { answer, refusal } = await carriedOut(sources, asked, time).finally(ended);
-  if (refusal) throw new Failure(refusal.status, `${refusal.at?.file ? `${sources.place(refusal.at.file, refusal.at.line)}: ` : ''}${plain(sources.placed(refusal.text))}`);
+  if (refusal) throw new Failure(refusal.status,
+    `${refusal.at?.file ? `${sources.place(refusal.at.file, refusal.at.line)}: ` : ''}${plain(sources.placed(refusal.text))}`);
   const lines = linesOf(answer, { ...answer, texts: answer.texts.length, notes: answer.notes.map((note) => sources.placed(note)) });
   const texts = words.text ? answer.texts.map((text) => `\n${text}`) : [];
   process.stdout.write(`${lines.map(plain).join('\n')}\n${texts.join('')}`);

@@ -39,7 +39,8 @@ class Exploring {
     const layout = new Layout(trees);
     const texts = new Texts(this.name, trees, layout);
     const made = { layout, texts, ended: [], unknown: trees.list.map(() => new Map()), race: false };
-    const reports = await Promise.all(texts.made.map(({ text }) => (text === '' ? { registers: [], outcomes: [[]], race: false } : this.report(text))));
+    const reports = await Promise.all(
+      texts.made.map(({ text }) => (text === '' ? { registers: [], outcomes: [[]], race: false } : this.report(text))));
     reports.forEach(({ registers, outcomes, race }, place) => {
       made.race ||= race;
       for (const values of outcomes) this.take(made, trees, texts.made[place].part, registers, values);

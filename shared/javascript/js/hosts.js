@@ -53,7 +53,8 @@ function workerOf(run) {
       if (options.eval) run.refuse('a worker from a text isn\'t followed: give its file as a further FILE');
       const base = path.basename(String(file?.href ?? file).replace(/[?#].*$/, ''));
       const data = run.data(options.workerData);
-      this.started = start(run, { name: nameOf(run, base.replace(/\.\w+$/, '')), kind: 'file', file: base, data, messages: [], handlers: [], at: run.line() });
+      this.started = start(run,
+        { name: nameOf(run, base.replace(/\.\w+$/, '')), kind: 'file', file: base, data, messages: [], handlers: [], at: run.line() });
       if (options.workerData !== undefined) run.isLive = true;
     }
     postMessage(value) {
@@ -106,17 +107,20 @@ function assertOf(run) {
     run.end('assert');
   };
   const same = (a, b, text) => check(Object.is(a, b), text ?? `${run.shown(a)} is not ${run.shown(b)}`);
-  const deep = (a, b, text) => check(JSON.stringify(run.data(a)) === JSON.stringify(run.data(b)), text ?? `${run.shown(a)} is not ${run.shown(b)}`);
+  const deep = (a, b, text) =>
+    check(JSON.stringify(run.data(a)) === JSON.stringify(run.data(b)), text ?? `${run.shown(a)} is not ${run.shown(b)}`);
   return Object.assign((holds, text) => check(holds, text), {
     ok: check, equal: (a, b, text) => check(a == b, text), notEqual: (a, b, text) => check(a != b, text),
-    strictEqual: same, sameValue: same, notStrictEqual: (a, b, text) => check(!Object.is(a, b), text), notSameValue: (a, b, text) => check(!Object.is(a, b), text),
+    strictEqual: same, sameValue: same, notStrictEqual: (a, b, text) => check(!Object.is(a, b), text),
+      notSameValue: (a, b, text) => check(!Object.is(a, b), text),
     deepEqual: deep, deepStrictEqual: deep, compareArray: deep,
     throws: () => run.refuse('`assert.throws` isn\'t followed: catch the error and look at it'),
   });
 }
 
 function consoleOf(run) {
-  const log = (...words) => { if (run.isLive) run.logs.push(words.map((word) => (typeof word === 'string' ? word : run.shown(word))).join(' ')); };
+  const log = (...words) => {
+    if (run.isLive) run.logs.push(words.map((word) => (typeof word === 'string' ? word : run.shown(word))).join(' ')); };
   const made = Object.fromEntries(['log', 'info', 'debug', 'warn', 'error'].map((name) => [name, log]));
   made.assert = (holds, ...words) => { if (!holds) run.failed.push({ at: run.line(), text: words.map(String).join(' ') }); };
   return made;
@@ -130,7 +134,9 @@ function t262Of(run) {
     run.isLive = true;
   };
   const agent = {
-    start: (source) => start(run, { name: nameOf(run, `agent${run.starts.length + 1}`), kind: 't262', source: String(source), at: run.line(), handlers: [] }) && undefined,
+    start: (source) => start(run,
+      { name: nameOf(run, `agent${run.starts.length + 1}`), kind: 't262', source: String(source), at: run.line(), handlers: [] })
+        && undefined,
     broadcast: share,
     safeBroadcast: (view) => share(view.buffer),
     receiveBroadcast: (act) => { act(run.rebuilt(run.role.data)); },

@@ -9,19 +9,20 @@ const { Refusal } = require('./refusal.js');
 
 const MODULES = /^(node:)?(worker_threads|assert|assert\/strict)$/;
 const KNOWN = new Set((`undefined NaN Infinity globalThis self Object Function Array String Number Boolean Symbol Math JSON Map Set WeakMap
-  WeakSet WeakRef Error TypeError RangeError SyntaxError ReferenceError EvalError URIError AggregateError Promise Proxy Reflect BigInt isNaN
-  isFinite parseInt parseFloat RegExp encodeURIComponent decodeURIComponent encodeURI decodeURI Intl Iterator
-  Atomics SharedArrayBuffer ArrayBuffer DataView Int8Array Uint8Array Uint8ClampedArray Int16Array Uint16Array Int32Array Uint32Array
-  Float32Array Float64Array BigInt64Array BigUint64Array WebAssembly Worker postMessage onmessage addEventListener require module exports
-  __filename __dirname console assert agents $262 performance Date setTimeout setInterval setImmediate requestAnimationFrame process arguments
-  crypto structuredClone close queueMicrotask URL eval print`).split(/\s+/));
+  WeakSet WeakRef Error TypeError RangeError SyntaxError ReferenceError EvalError URIError AggregateError Promise Proxy
+  Reflect BigInt isNaN isFinite parseInt parseFloat RegExp encodeURIComponent decodeURIComponent encodeURI decodeURI Intl
+  Iterator Atomics SharedArrayBuffer ArrayBuffer DataView Int8Array Uint8Array Uint8ClampedArray Int16Array Uint16Array
+  Int32Array Uint32Array Float32Array Float64Array BigInt64Array BigUint64Array WebAssembly Worker postMessage onmessage
+  addEventListener require module exports __filename __dirname console assert agents $262 performance Date setTimeout
+  setInterval setImmediate requestAnimationFrame process arguments crypto structuredClone close queueMicrotask URL eval
+  print`).split(/\s+/));
 
 const REFUSED = {
   AwaitExpression: '`await` isn\'t followed: write what comes after it as a function of its own, an agent or a part of one',
   ImportExpression: '`import()` isn\'t followed: put the code into this file',
   WithStatement: '`with` isn\'t followed: name the object',
 };
-const ASYNC = 'asynchronous functions aren\'t followed: write what comes after an `await` as a function of its own, an agent or a part of one';
+const ASYNC = 'asynchronous functions aren\'t followed: write what comes after an `await` as a function of its own';
 
 // Edits of a text: each puts a text at a place; of those at one place the closing ones come first, then the outer ones.
 class Edits {
@@ -67,7 +68,8 @@ class Marks {
       const parent = ancestors[ancestors.length - 2];
       if (LOOPS.has(node.type) && node.type !== 'ForOfStatement' && node.type !== 'ForInStatement') this.loop(node, ancestors);
       else if (node.type === 'FunctionDeclaration') this.declaration(node, ancestors);
-      else if (FUNCTIONS.has(node.type) && !['MethodDefinition'].includes(parent.type) && !isMethod(parent, node)) this.expression(node, parent);
+      else if (FUNCTIONS.has(node.type) && !['MethodDefinition'].includes(parent.type) && !isMethod(parent, node)) this.expression(node,
+        parent);
       else if (node.type === 'ObjectExpression' && node.properties.some((each) => isMethod(each, each.value))) {
         this.edits.around(node, '__methods(', `,${this.closed(node)})`);
       } else if (CLASSES.has(node.type)) this.class(node);
@@ -80,7 +82,8 @@ class Marks {
 
   // `parent` gives a function without a name its own.
   expression(node, parent) {
-    const names = { VariableDeclarator: parent.id, AssignmentExpression: parent.left, AssignmentPattern: parent.left, Property: parent.computed ? null : parent.key };
+    const names = { VariableDeclarator: parent.id, AssignmentExpression: parent.left, AssignmentPattern: parent.left,
+      Property: parent.computed ? null : parent.key };
     const isNamed = node.type === 'FunctionExpression' && node.id;
     const named = !isNamed && ['Identifier', 'Literal'].includes(names[parent.type]?.type) ? names[parent.type] : null;
     const name = named ? JSON.stringify(String(named.name ?? named.value)) : 'null';
@@ -104,10 +107,13 @@ class Marks {
   }
 
   loop(node, ancestors) {
-    const ownerNode = [...ancestors].reverse().slice(1).find((each) => FUNCTIONS.has(each.type) || each.type === 'Program' || each.type === 'StaticBlock');
+    const ownerNode = [...ancestors].reverse().slice(1)
+      .find((each) => FUNCTIONS.has(each.type) || each.type === 'Program' || each.type === 'StaticBlock');
     const dead = deadAt(node, this.scopes.of.get(ownerNode), this.scopes);
-    const own = node.init?.type === 'VariableDeclaration' && node.init.kind !== 'var' ? node.init.declarations.flatMap((each) => namesIn(each.id)) : [];
-    const names = [...this.scopes.freeIn(node)].filter(([name, scope]) => scope !== null && !dead.has(name) && name !== 'arguments').map(([name]) => name);
+    const own = node.init?.type === 'VariableDeclaration' && node.init.kind !== 'var'
+      ? node.init.declarations.flatMap((each) => namesIn(each.id)) : [];
+    const names = [...this.scopes.freeIn(node)].filter(([name, scope]) => scope !== null && !dead.has(name) && name !== 'arguments')
+      .map(([name]) => name);
     const state = getters([...new Set([...names, ...own]), ...this.usesThis(node) ? ['this'] : []]);
     const id = `__loop${this.loops += 1}`;
     const head = `${id}(${state})`;
@@ -140,8 +146,10 @@ class Marks {
   }
 
   imported(node) {
-    if (!MODULES.test(node.source.value)) throw this.refusal(node, `\`${node.source.value}\` isn't read: put what the agents need of it into this file`);
-    const named = node.specifiers.filter((each) => each.type === 'ImportSpecifier').map((each) => `${each.imported.name}:${each.local.name}`);
+    if (!MODULES.test(node.source.value)) throw this.refusal(node,
+      `\`${node.source.value}\` isn't read: put what the agents need of it into this file`);
+    const named = node.specifiers.filter((each) => each.type === 'ImportSpecifier')
+      .map((each) => `${each.imported.name}:${each.local.name}`);
     const whole = node.specifiers.find((each) => each.type !== 'ImportSpecifier');
     const wanted = `require(${JSON.stringify(node.source.value)})`;
     const made = [whole ? `const ${whole.local.name}=${wanted};` : '', named.length ? `const {${named}}=${wanted};` : ''].join('');
@@ -161,7 +169,8 @@ class Marks {
       if (node.type === 'ForOfStatement' && node.await) throw this.refusal(node, REFUSED.AwaitExpression);
       if (node.type !== 'CallExpression') return;
       const { callee } = node;
-      if (callee.type === 'Identifier' && callee.name === 'eval') throw this.refusal(node, '`eval` isn\'t followed: write its text in its place');
+      if (callee.type === 'Identifier' && callee.name === 'eval') throw this.refusal(node,
+        '`eval` isn\'t followed: write its text in its place');
       if (callee.type === 'MemberExpression' && callee.object.name === 'Atomics' && callee.property.name === 'notify') {
         const parent = ancestors[ancestors.length - 2];
         const isUnused = parent.type === 'ExpressionStatement' || (parent.type === 'UnaryExpression' && parent.operator === 'void');
@@ -185,7 +194,8 @@ class Marks {
     });
     const missing = nowhere.find((use) => !called.has(use.node) && !set.has(use.name));
     if (missing) {
-      throw this.refusal(missing.node, `\`${missing.name}\` is declared nowhere: put in what the agents need of it, or a number in its place`);
+      throw this.refusal(missing.node,
+        `\`${missing.name}\` is declared nowhere: put in what the agents need of it, or a number in its place`);
     }
     return [...new Set(nowhere.map((use) => use.name))].filter((name) => !set.has(name));
   }
@@ -195,7 +205,8 @@ const isMethod = (parent, node) => parent.type === 'Property' && parent.value ==
   && FUNCTIONS.has(node?.type);
 
 // A private field, or accessor without which reading would fail or call code: only fields are read.
-const isReadable = (node, name) => node.body.body.every((each) => each.key?.name !== name || each.key.type !== 'PrivateIdentifier' || each.type === 'PropertyDefinition');
+const isReadable = (node, name) =>
+  node.body.body.every((each) => each.key?.name !== name || each.key.type !== 'PrivateIdentifier' || each.type === 'PropertyDefinition');
 
 function numbersIn(tree) {
   const numbers = new Set();

@@ -12,7 +12,8 @@ const BYTE = 256;
 // Accesses whose ranges overlap, one after the other, and the bytes that they cover.
 class Cluster {
   constructor(event) {
-    Object.assign(this, { block: event.block, from: event.first, to: event.first + event.size, ranges: [event], nodes: [], initial: 0, form: 'bytes', at: 0 });
+    Object.assign(this, { block: event.block, from: event.first, to: event.first + event.size, ranges: [event], nodes: [], initial: 0,
+      form: 'bytes', at: 0 });
   }
 
   get bytes() {
@@ -86,8 +87,9 @@ class Layout {
     }
     this.bytes = Math.max(1, at);
     if (at > BLOCK_LIMIT) {
-      const [{ nodes }] = this.clusters.filter(({ form }) => form === 'bytes').sort((a, b) => b.bytes - a.bytes);
-      throw new Refusal(`the agents read and write ${at} bytes of shared memory, and ${BLOCK_LIMIT} are followed: leave some out, as these`, nodes[0].event.at);
+      const [{ nodes }] = [...this.clusters].sort((a, b) => b.bytes - a.bytes);
+      throw new Refusal(`the agents read and write ${at} bytes of shared memory, and ${BLOCK_LIMIT} are followed: leave some out, `
+        + 'such as these', nodes[0].event.at);
     }
   }
 

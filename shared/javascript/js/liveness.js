@@ -51,7 +51,8 @@ class Way {
   either(first, second) {
     const one = this.perhaps(() => first && this.go(first));
     const other = this.perhaps(() => second && this.go(second));
-    const ends = (node) => node && (node.type === 'BlockStatement' ? node.body.some(ends) : /^(Return|Throw|Break|Continue)Statement$/.test(node.type));
+    const ends = (node) => node
+      && (node.type === 'BlockStatement' ? node.body.some(ends) : /^(Return|Throw|Break|Continue)Statement$/.test(node.type));
     if (ends(first)) this.assigned = other;
     else if (ends(second)) this.assigned = one;
     else this.assigned = new Set([...one].filter((name) => other.has(name)));
@@ -130,7 +131,8 @@ Way.prototype.pattern = function pattern(node) {
 // The names, of those that the loop names, that are dead at its head. `owner` is the function, or program, that it stands in.
 function deadAt(loop, owner, scopes) {
   if (contains(owner.node, ['TryStatement', 'YieldExpression', 'AwaitExpression', 'WithStatement'])) return new Set();
-  const local = [...scopes.freeIn(loop)].filter(([name, scope]) => scope !== null && isLocal(name, scope, owner, scopes)).map(([name]) => name);
+  const local = [...scopes.freeIn(loop)].filter(([name, scope]) => scope !== null && isLocal(name, scope, owner, scopes))
+    .map(([name]) => name);
   const way = new Way(local, loop.type === 'WhileStatement');
   const isEndless = !loop.test || (loop.test.type === 'Literal' && Boolean(loop.test.value));
   if (loop.type === 'DoWhileStatement') way.list([loop.body, loop.test]);

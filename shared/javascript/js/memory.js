@@ -69,7 +69,8 @@ function install(host) {
   };
 
   const isIndex = (name) => typeof name === 'string' && (name === '-0' || String(Number(name)) === name);
-  const isWithin = (array, name) => Number.isInteger(Number(name)) && !Object.is(Number(name), -0) && Number(name) >= 0 && Number(name) < array.length;
+  const isWithin = (array, name) => Number.isInteger(Number(name)) && !Object.is(Number(name), -0) && Number(name) >= 0
+    && Number(name) < array.length;
   const OWN = new Set(['length', 'byteLength', 'byteOffset', 'buffer', Symbol.toStringTag]);
   const handler = {
     get(array, name, receiver) {
@@ -132,7 +133,8 @@ function install(host) {
       if (from + length > array.length) throw new RangeError('offset is out of bounds');
       const { Real, size, where } = elementAt(array, from);
       // Of a typed array of the same type the bytes are copied, of anything else the elements.
-      if (nameOf(given) !== Real.name || !host.isLive()) for (let index = 0; index < length; index += 1) write(array, from + index, given[index]);
+      if (nameOf(given) !== Real.name || !host.isLive()) for (let index = 0; index < length; index += 1) write(array, from + index,
+        given[index]);
       else {
         const bytes = new Uint8Array(given.buffer, given.byteOffset, given.byteLength).slice();
         bytes.forEach((value, index) => plainWrite([value], where[0], where[1] + index, 1, true));
@@ -140,7 +142,8 @@ function install(host) {
     },
   };
   // These only read, as those of Array do.
-  for (const name of ['at', 'entries', 'every', 'find', 'findIndex', 'findLast', 'findLastIndex', 'forEach', 'includes', 'indexOf', 'join', 'keys',
+  for (const name of ['at', 'entries', 'every', 'find', 'findIndex', 'findLast', 'findLastIndex', 'forEach', 'includes', 'indexOf',
+    'join', 'keys',
     'lastIndexOf', 'reduce', 'reduceRight', 'some', 'toString', 'values']) {
     const same = Array.prototype[name];
     if (same) methods[name] = { [name](...given) { return Reflect.apply(same, (itself(this), this), given); } }[name];
@@ -193,7 +196,8 @@ function install(host) {
     bits.forEach((word, place) => bytes.setUint32(4 * place, word, true));
     const list = [...new Uint8Array(bytes.buffer, 0, size)].reverse();
     list.forEach((byte, place) => bytes.setUint8(place, byte));
-    return bits.map((_, place) => (size < 4 ? list.reduce((sum, byte, at) => sum + byte * 256 ** at, 0) : bytes.getUint32(4 * place, true)));
+    return bits.map((_, place) =>
+      (size < 4 ? list.reduce((sum, byte, at) => sum + byte * 256 ** at, 0) : bytes.getUint32(4 * place, true)));
   };
   const bufferOf = Object.getOwnPropertyDescriptor(DataView.prototype, 'buffer').get;
   for (const type of TYPES) {
@@ -287,8 +291,10 @@ function install(host) {
       return act(views.get(view), ...given);
     } }[name];
   }
-  Atomics.waitAsync = () => host.refuse('`Atomics.waitAsync` isn\'t followed: write what is done once it is woken as an agent of its own, after `Atomics.wait`');
-  Atomics.isLockFree = (size) => (Number(size) === 4 ? true : host.refuse('`Atomics.isLockFree` differs from engine to engine: put its answer in its place'));
+  Atomics.waitAsync = () =>
+    host.refuse('`Atomics.waitAsync` isn\'t followed: write what is done once it is woken as an agent of its own, after `Atomics.wait`');
+  Atomics.isLockFree = (size) =>
+    (Number(size) === 4 ? true : host.refuse('`Atomics.isLockFree` differs from engine to engine: put its answer in its place'));
   Atomics.pause = () => undefined;
   for (const name of ['Instance', 'Module', 'instantiate', 'compile', 'instantiateStreaming', 'compileStreaming']) {
     if (globalThis.WebAssembly?.[name]) {

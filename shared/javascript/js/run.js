@@ -6,7 +6,7 @@ const util = require('util');
 const vm = require('vm');
 const { globalsOf } = require('./hosts.js');
 const { install } = require('./memory.js');
-const { Refusal } = require('./refusal.js');
+const { Refusal, busiest } = require('./refusal.js');
 const { States } = require('./state.js');
 const { NoData, dataOf, valueOf } = require('./values.js');
 
@@ -96,7 +96,8 @@ class Run {
   access(access) {
     if (this.refused) throw this.refused;
     if (this.ended) throw new Ends(this.ended);
-    if (this.role === null && this.setting.isAlone) this.refuse('main accesses shared memory after it started the agents: do that before, or in an agent');
+    if (this.role === null
+      && this.setting.isAlone) this.refuse('main accesses shared memory after it started the agents: do that before, or in an agent');
     this.wake();
     const event = { ...access, at: this.line() };
     if (typeof event.block === 'number') event.block = this.blockName(event.block);
@@ -130,11 +131,10 @@ class Run {
   }
 
   tooLong() {
-    const times = new Map();
-    for (const { at } of this.events) if (at) times.set(`${at.file}:${at.line}`, { at, times: (times.get(`${at.file}:${at.line}`)?.times ?? 0) + 1 });
-    const most = [...times.values()].sort((a, b) => b.times - a.times)[0];
-    this.refuse(most.times > 2 ? `this line accesses shared memory ${most.times} times and more on one way, and ${MOST} accesses are followed: let its loop make two turns`
-      : `an agent makes more than ${MOST} accesses of shared memory on one way: take a part of it`, most.at);
+    const { at, times } = busiest(this.events);
+    this.refuse(times > 2
+      ? `this line accesses shared memory ${times} times and more on one way, and ${MOST} are followed: let its loop make two turns`
+      : `an agent makes more than ${MOST} accesses of shared memory on one way: take a part of it`, at);
   }
 
   // What nothing decides, a number below `count`: each is followed.
@@ -191,7 +191,8 @@ class Run {
       if (before !== undefined && before.events === events) this.refuse('this loop never ends: nothing that it looks at changes');
       if (before !== undefined && before.same !== this.same && kept === 0) kept += 1;
       else if (before !== undefined) {
-        if (before.same !== this.same) this.program.note(this.line(), 'this loop writes what it reads, and other accesses of that are plain: two of its turns are followed');
+        if (before.same !== this.same) this.program.note(this.line(),
+          'this loop writes what it reads, and other accesses of that are plain: two of its turns are followed');
         this.woken = null;
         this.end('stutter');
       }
@@ -214,7 +215,8 @@ class Run {
       return dataOf(value, this.realm);
     } catch (error) {
       if (!(error instanceof NoData)) throw error;
-      return typeof value === 'function' || typeof value === 'symbol' ? { type: 'undefined' } : this.refuse(`${error.message} isn't followed as an outcome: give plain data`, this.role?.at ?? null);
+      return typeof value === 'function' || typeof value === 'symbol'
+        ? { type: 'undefined' } : this.refuse(`${error.message} isn't followed as an outcome: give plain data`, this.role?.at ?? null);
     }
   }
 
@@ -242,14 +244,16 @@ class Run {
       },
     };
     Object.assign(this.global, globals, marks);
-    this.states = new States(this.global, this.realm, [...Object.values(globals), ...Object.values(marks)].filter((each) => typeof each === 'function' || typeof each === 'object'));
+    this.states = new States(this.global, this.realm,
+      [...Object.values(globals), ...Object.values(marks)].filter((each) => typeof each === 'function' || typeof each === 'object'));
     this.global.Math.random = marks.__random;
   }
 
   closing(object, closed) {
     for (const each of Object.values(Object.getOwnPropertyDescriptors(object))) {
       for (const made of [each.value, each.get, each.set]) {
-        if (typeof made === 'function' && !util.types.isProxy(made) && !this.states.closures.has(made)) this.states.closures.set(made, closed);
+        if (typeof made === 'function' && !util.types.isProxy(made) && !this.states.closures.has(made)) this.states.closures.set(made,
+          closed);
       }
     }
     return object;
@@ -263,7 +267,8 @@ class Run {
     try {
       const made = role?.kind === 't262' ? program.script(role.at.file, role.source, role.at.line) : program.script(file);
       for (const output of made.outputs) {
-        this.global[output] ??= (...words) => { if (this.isLive) this.logs.push(`${output}(${words.map((word) => this.shown(word)).join(', ')})`); };
+        this.global[output] ??= (
+          ...words) => { if (this.isLive) this.logs.push(`${output}(${words.map((word) => this.shown(word)).join(', ')})`); };
       }
       (this.room.isKept ? made.closed : made.script).runInContext(this.room.context, { timeout: PATIENCE });
       this.after();
@@ -329,7 +334,8 @@ class Run {
     if (/^ReferenceError: \S+ is not defined$/.test(text)) {
       this.refused = new Refusal(`${text.slice(16)} here: put in what the agents need of it`, at);
     } else if (!this.isLive) this.refused = new Refusal(`this throws before any agent is started: ${text}`, at);
-    else if (this.role?.handlers?.length) this.refused = new Refusal(`a worker that throws isn't followed where main listens to it: catch it there (${text})`, at);
+    else if (this.role?.handlers?.length) this.refused = new Refusal(
+      `a worker that throws isn't followed where main listens to it: catch it there (${text})`, at);
     else {
       this.ended = 'threw';
       this.value = text;

@@ -6,13 +6,15 @@ const { types } = require('util');
 
 const MOST = 20000;   // values that are looked at
 
-const GLOBALS = `Object Function Array String Number Boolean Symbol Math JSON Map Set WeakMap WeakSet WeakRef Error TypeError RangeError SyntaxError
-  ReferenceError EvalError URIError AggregateError Promise Proxy Reflect BigInt RegExp Atomics SharedArrayBuffer ArrayBuffer DataView Int8Array
-  Uint8Array Uint8ClampedArray Int16Array Uint16Array Int32Array Uint32Array Float32Array Float64Array BigInt64Array BigUint64Array WebAssembly
-  Date Intl globalThis`.split(/\s+/);
+const GLOBALS = `Object Function Array String Number Boolean Symbol Math JSON Map Set WeakMap WeakSet WeakRef Error TypeError RangeError
+  SyntaxError ReferenceError EvalError URIError AggregateError Promise Proxy Reflect BigInt RegExp Atomics
+  SharedArrayBuffer ArrayBuffer DataView Int8Array Uint8Array Uint8ClampedArray Int16Array Uint16Array Int32Array
+  Uint32Array Float32Array Float64Array BigInt64Array BigUint64Array WebAssembly Date Intl globalThis`.split(/\s+/);
 
-const isOpaque = (value) => types.isProxy(value) || types.isGeneratorObject(value) || types.isMapIterator(value) || types.isSetIterator(value)
-  || types.isWeakMap(value) || types.isWeakSet(value) || types.isPromise(value) || types.isExternal(value) || types.isModuleNamespaceObject(value);
+const isOpaque = (value) => types.isProxy(value) || types.isGeneratorObject(value) || types.isMapIterator(value)
+  || types.isSetIterator(value)
+  || types.isWeakMap(value) || types.isWeakSet(value) || types.isPromise(value) || types.isExternal(value)
+    || types.isModuleNamespaceObject(value);
 
 // What a function says of its calls at the moment: nothing that it keeps.
 const isOfCalls = (object, name) => typeof object === 'function' && (name === 'arguments' || name === 'caller');
@@ -79,7 +81,8 @@ class Looking {
   value(value) {
     if (this.words.length > MOST) throw new Opaque();
     if ((typeof value !== 'object' || value === null) && typeof value !== 'function') {
-      this.words.push(typeof value === 'symbol' ? `symbol ${String(value)}` : Object.is(value, -0) ? '-0' : typeof value === 'string' ? JSON.stringify(value)
+      this.words.push(typeof value === 'symbol' ? `symbol ${String(value)}` : Object.is(value, -0) ? '-0' : typeof value === 'string'
+        ? JSON.stringify(value)
         : `${typeof value} ${value}`);
       return;
     }

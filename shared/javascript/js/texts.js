@@ -3,8 +3,8 @@
 // of an outcome tell.
 
 const { AGENT_LIMIT, COMBINATION_LIMIT, ACCESS_LIMIT, IF_LIMIT, REGISTERS, TEXT_LIMIT } = require('./limits.js');
-const { Refusal } = require('./refusal.js');
-const { each } = require('./trees.js');
+const { Refusal, busiest } = require('./refusal.js');
+const { each, tooManyReads } = require('./trees.js');
 
 const MOST_TEXTS = 4000;
 
@@ -93,7 +93,8 @@ class Writer {
 
   // if .. else if .. ; a value that isn't among them stops.
   chain(kids, event, register) {
-    return kids.reduceRight((other, { value, code }) => [{ register: `r${register}`, number: this.layout.number(event, value), body: code, other }], []);
+    return kids.reduceRight((other, { value, code }) =>
+      [{ register: `r${register}`, number: this.layout.number(event, value), body: code, other }], []);
   }
 
   // A read-modify-write whose new value hangs on the old one: where one old value is followed, an exchange; else a load, and for each
@@ -112,14 +113,16 @@ class Writer {
     const made = kids.map(([value, kid]) => {
       const line = `${s} = ${this.layout.code(event, 'compareExchange', [value, event.next(value)])}`;
       const rest = this.code(kid, register + 2);
-      return { value, code: [this.access(event, line, 2), ...(rest.length ? this.chain([{ value, code: rest }], event, register + 1) : [])] };
+      return { value, code: [this.access(event, line, 2),
+        ...(rest.length ? this.chain([{ value, code: rest }], event, register + 1) : [])] };
     });
     return [this.access(event, `${r} = ${this.layout.code(event, 'load')}`), ...this.chain(made, event, register)];
   }
 }
 
 const linesOf = (code) => code.flatMap((item) => (item.line ? [item.line]
-  : [`if ${item.register} == ${item.number} {`, ...linesOf(item.body), ...(item.other.length ? ['} else {', ...linesOf(item.other)] : []), '}']));
+  : [`if ${item.register} == ${item.number} {`, ...linesOf(item.body), ...(item.other.length ? ['} else {', ...linesOf(item.other)] : []),
+    '}']));
 
 // How many paths the program counts, how deep the ifs are nested, and how many accesses the longest path has, with its events.
 function measure(code) {
@@ -151,7 +154,8 @@ class Wakes {
   isBeyond({ op, first, turn }, name) {
     if (op !== 'wake') return false;
     const key = `${first} ${name}`;
-    if (!this.counts.has(key)) this.counts.set(key, this.list.filter((tree) => tree.name !== name).reduce((sum, { root }) => sum + this.most(root, first), 0));
+    if (!this.counts.has(key)) this.counts.set(key,
+      this.list.filter((tree) => tree.name !== name).reduce((sum, { root }) => sum + this.most(root, first), 0));
     return turn > this.counts.get(key);
   }
 
@@ -181,13 +185,15 @@ function widest(root, part) {
 class Texts {
   constructor(name, trees, layout) {
     Object.assign(this, { name, trees, layout, wakes: new Wakes(trees.list), made: [] });
-    if (trees.list.length > AGENT_LIMIT) throw new Refusal(`${trees.list.length} agents are started, and ${AGENT_LIMIT} are followed: start fewer`, trees.list[AGENT_LIMIT].role?.at ?? null);
+    if (trees.list.length > AGENT_LIMIT) throw new Refusal(
+      `${trees.list.length} agents are started, and ${AGENT_LIMIT} are followed: start fewer`, trees.list[AGENT_LIMIT].role?.at ?? null);
     this.split(new Part());
   }
 
   // The texts of a part.
   split(part) {
-    if (this.made.length > MOST_TEXTS) throw new Refusal(`the agents go so many ways together that more than ${MOST_TEXTS} texts would be asked: take fewer agents, turns or accesses`);
+    if (this.made.length > MOST_TEXTS) throw new Refusal(
+      `the agents go so many ways together that more than ${MOST_TEXTS} texts would be asked: take fewer agents, turns or accesses`);
     const writers = this.trees.list.map((tree) => new Writer(this.layout, this.wakes, tree, part));
     const codes = writers.map((writer, place) => writer.code(this.trees.list[place].root));
     const undecided = writers.find((writer) => writer.undecided)?.undecided;
@@ -206,7 +212,7 @@ class Texts {
     for (const [place, writer] of writers.entries()) {
       if (writer.registers > REGISTERS) {
         if (writer.modifies) return writer.modifies;
-        throw new Refusal(`the agent ${list[place].name} reads more than ${REGISTERS} values on one way, ${writer.registers} here: take fewer turns, or a part of it`, writer.last.at);
+        throw tooManyReads(list[place].name, writer.last.at);
       }
       if (measures[place].depth > IF_LIMIT) return find(place);
     }
@@ -215,16 +221,16 @@ class Texts {
       if (node) return node;
       throw this.tooLong(measures);
     }
-    if (measures.reduce((all, { paths }) => all * paths, 1) > COMBINATION_LIMIT || text.length > TEXT_LIMIT) return first(worst((place) => measures[place].paths));
+    if (measures.reduce((all, { paths }) => all * paths, 1) > COMBINATION_LIMIT
+      || text.length > TEXT_LIMIT) return first(worst((place) => measures[place].paths));
     return null;
   }
 
   tooLong(measures) {
     const longest = measures.map(({ accesses }, place) => `${this.trees.list[place].name} ${accesses}`).join(', ');
-    const times = new Map();
-    for (const { at } of measures.flatMap(({ events }) => events)) if (at) times.set(`${at.file}:${at.line}`, { at, times: (times.get(`${at.file}:${at.line}`)?.times ?? 0) + 1 });
-    const most = [...times.values()].sort((a, b) => b.times - a.times)[0];
-    return new Refusal(`the agents make more than ${ACCESS_LIMIT} accesses together (${longest}): take fewer agents, turns or accesses; this line makes ${most.times} of them`, most.at);
+    const { at, times } = busiest(measures.flatMap(({ events }) => events));
+    return new Refusal(`the agents make more than ${ACCESS_LIMIT} accesses together (${longest}), this line ${times} of them: `
+      + 'take fewer agents, turns or accesses', at);
   }
 
   text(codes) {

@@ -88,7 +88,8 @@ class Reads {
       let node = root;
       while (node && !node.leaf && !node.kids) node = node.next;
       if (!node || node.leaf) return;
-      if (node.event.op !== 'choice') for (const value of this.valuesAt(node.event, true)) if (!node.kids.has(value)) waiting.push([...path, value]);
+      if (node.event.op !== 'choice') for (const value of this.valuesAt(node.event, true)) if (!node.kids.has(value)) waiting.push(
+        [...path, value]);
       node.kids.forEach((kid, value) => visit(kid, [...path, value]));
     };
     visit(tree.root, []);
@@ -154,7 +155,8 @@ class Reads {
       const writes = [...node.writes.values()].filter((write) => overlaps(write.event, other.event) && gives(write, other));
       return writes.length ? { other, isOpen: writes.some((write) => !synchronizes(write.event, other.event)) } : null;
     };
-    const next = new Map(nodes.map((node) => [node, nodes.filter((other) => other.agent !== node.agent).map((other) => leads(node, other)).filter(Boolean)]));
+    const next = new Map(
+      nodes.map((node) => [node, nodes.filter((other) => other.agent !== node.agent).map((other) => leads(node, other)).filter(Boolean)]));
     let steps = 0;
     const comesBack = (node, start, agents, isOpen) => next.get(node).some((to) => {
       if ((steps += 1) > MOST_STEPS) return false;
@@ -175,8 +177,12 @@ function seedsOf(program, trees) {
   const copied = found.filter(isProbe);
   const notes = [];
   const lines = [...new Set(copied.map(({ event: { at } }) => at && `${at.file}:${at.line}`))].filter(Boolean).sort();
-  if (lines.length) notes.push(`by the letter of the standard the reads of ${lines.join(', ')} may have any value, out of thin air, since it is copied round; those that the source names were tried`);
-  else if (!reads.isWhole && reads.inRings(() => true).length) notes.push('values out of thin air were looked for in part: not all that the source names could be tried at each read');
+  if (lines.length) {
+    notes.push(`by the letter of the standard the reads of ${lines.join(', ')} may have any value, out of thin air, `
+      + 'since it is copied round; those that the source names were tried');
+  } else if (!reads.isWhole && reads.inRings(() => true).length) {
+    notes.push('values out of thin air were looked for in part: not all that the source names could be tried at each read');
+  }
   return { seeds: found.filter((each) => !isProbe(each)).map(({ agent, path }) => ({ agent, values: path })), notes };
 }
 

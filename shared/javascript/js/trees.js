@@ -72,7 +72,8 @@ class Tree {
   grow(values) {
     const run = new Run(this.program, this.role, values, this.setting).go();
     this.runs += 1;
-    if (this.runs > MOST_RUNS) throw new Refusal(`the agent ${this.name} goes more than ${MOST_RUNS} ways: take fewer accesses or values`, this.role?.at ?? null);
+    if (this.runs > MOST_RUNS) throw new Refusal(`the agent ${this.name} goes more than ${MOST_RUNS} ways: take fewer accesses or values`,
+      this.role?.at ?? null);
     run.relied.forEach((key) => this.setting.relied.add(key));
     this.add(run);
     const last = run.events[run.events.length - 1];
@@ -123,12 +124,12 @@ function aloneIn(setting) {
 function seeAlone({ program, role, setting, name }) {
   const { events } = new Run(program, role, [], { ...setting, answer: aloneIn(setting) }).go();
   const reads = events.filter(({ op }) => isRead(op) && op !== 'choice');
-  if (reads.length > REGISTERS) throw tooManyReads(name, reads);
+  if (reads.length > REGISTERS) throw tooManyReads(name, reads[REGISTERS].at);
 }
 
-function tooManyReads(name, reads) {
-  const last = reads[REGISTERS];
-  return new Refusal(`the agent ${name} reads more than ${REGISTERS} values on one way, here the next: take fewer turns, or a part of it`, last.at);
+function tooManyReads(name, at) {
+  return new Refusal(`the agent ${name} reads more than ${REGISTERS} values on one way, one more here: take fewer turns, `
+    + 'or a part of it', at);
 }
 
 // All accesses that were seen: whether those of a range share bytes with others, or aren't atomic.
@@ -150,7 +151,8 @@ class Setting {
     const list = [...this.ranges];
     return [...this.relied].filter((key) => {
       const { event, isAtomic } = this.ranges.get(key);
-      return !isAtomic || list.some(([other, { event: by }]) => other !== key && by.block === event.block && by.first < event.first + event.size && event.first < by.first + by.size);
+      return !isAtomic || list.some(([other, { event: by }]) => other !== key && by.block === event.block
+        && by.first < event.first + event.size && event.first < by.first + by.size);
     });
   }
 }
@@ -166,11 +168,13 @@ function plant(program, mixed = new Set()) {
   }
   const { starts } = scout;
   if (starts.length === 0) {
-    throw new Refusal('no agent is started: start workers, or end with a line `agents({ name() { .. }, .. })` that calls what each does', { file: program.main, line: null });
+    throw new Refusal('no agent is started: start workers, or end with a line `agents({ name() { .. }, .. })` that calls what each does',
+      { file: program.main, line: null });
   }
   setting.hasMail = starts.some(({ handlers }) => handlers.length > 0);
   for (let number = 0; scout.realm.block(number); number += 1) setting.blocks.push(scout.realm.block(number).byteLength);
-  if (setting.blocks.length === 0) throw new Refusal('there is no shared memory: make a SharedArrayBuffer', { file: program.main, line: null });
+  if (setting.blocks.length === 0) throw new Refusal('there is no shared memory: make a SharedArrayBuffer',
+    { file: program.main, line: null });
   setting.initial = (name, place) => {
     const found = /^block(\d+)$/.exec(name);
     return found ? new Uint8Array(scout.realm.block(Number(found[1])))[place] ?? 0 : 0;
@@ -190,4 +194,4 @@ function each(node, visit) {
   else each(node.next, visit);
 }
 
-module.exports = { Program, Tree, each, plant };
+module.exports = { Program, Tree, each, plant, tooManyReads };

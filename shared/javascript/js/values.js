@@ -22,7 +22,8 @@ function dataOf(value, realm, depth = 0) {
   }
   if (value === null) return { type: 'null' };
   const view = realm?.view(value);
-  if (view) return { type: 'view', kind: view[Symbol.toStringTag], block: realm.numberOf(view.buffer), bytes: view.buffer.byteLength, offset: view.byteOffset, length: view.length };
+  if (view) return { type: 'view', kind: view[Symbol.toStringTag], block: realm.numberOf(view.buffer), bytes: view.buffer.byteLength,
+    offset: view.byteOffset, length: view.length };
   if (types.isSharedArrayBuffer(value)) return { type: 'block', block: realm.numberOf(value), bytes: value.byteLength };
   if (types.isProxy(value)) throw new NoData('a proxy');
   if (Array.isArray(value)) return { type: 'array', items: Array.from(value, inner) };
@@ -52,7 +53,8 @@ function valueOf(data, global, realm) {
     case 'error': return Object.assign(new global.Error(data.message), { name: data.name });
     case 'object': {
       const made = new global.Object();
-      for (const [name, each] of data.items) Object.defineProperty(made, name, { value: inner(each), writable: true, enumerable: true, configurable: true });
+      for (const [name, each] of data.items) Object.defineProperty(made, name,
+        { value: inner(each), writable: true, enumerable: true, configurable: true });
       return made;
     }
     case 'block': return realm.block(data.block);
@@ -60,6 +62,8 @@ function valueOf(data, global, realm) {
     default: return data.value;
   }
 }
+
+const shownEntry = ([name, each]) => `${/^[A-Za-z_$][\w$]*$/.test(name) ? name : JSON.stringify(name)}: ${shown(each)}`;
 
 // As one would write it.
 function shown(data) {
@@ -70,7 +74,7 @@ function shown(data) {
     case 'array': return `[${data.items.map(shown).join(', ')}]`;
     case 'map': case 'set': return `${data.type === 'map' ? 'Map' : 'Set'} [${data.items.map(shown).join(', ')}]`;
     case 'error': return `${data.name}: ${data.message}`;
-    case 'object': return data.items.length ? `{ ${data.items.map(([name, each]) => `${/^[A-Za-z_$][\w$]*$/.test(name) ? name : JSON.stringify(name)}: ${shown(each)}`).join(', ')} }` : '{}';
+    case 'object': return data.items.length ? `{ ${data.items.map(shownEntry).join(', ')} }` : '{}';
     case 'block': return `SharedArrayBuffer(${data.bytes})`;
     case 'view': return `${data.kind}(${data.length})`;
     default: return JSON.stringify(data.value);

@@ -46,7 +46,8 @@ function agentsOf(source, allTurns, main = 'main.js') {
   const program = programOf(source, main);
   const { list, setting } = plant(program);
   const free = { ...setting, allTurns, most: 400 };
-  return { names: list.map(({ name }) => name), runs: list.map(({ role }) => kept((values) => new Run(program, role, values, free).go())), setting };
+  return { names: list.map(({ name }) => name), runs: list.map(({ role }) => kept((values) => new Run(program, role, values, free).go())),
+    setting };
 }
 
 function kept(run) {
@@ -59,14 +60,17 @@ function kept(run) {
 }
 
 // The text of an outcome, by the leaves of all agents.
-const tellOf = (names) => (ways) => answerOf(names, [ways.map(({ ended, value, logs, failed, isPerhaps }) => ({ end: ended, value, logs, failed, isPerhaps }))], null).outcomes[0].text;
+const tellOf = (names) => (ways) =>
+  answerOf(names, [ways.map(({ ended, value, logs, failed, isPerhaps }) => ({ end: ended, value, logs, failed, isPerhaps }))], null)
+    .outcomes[0].text;
 
 // Executions of the code in which each access takes effect at once, in an order that `choose` gives. `null` where it came to no end.
 function interleaving({ names, runs, setting }, choose, most = 300) {
   const memory = new Map();
   const load = ({ block, first, size }) => {
     let value = 0;
-    for (let place = size - 1; place >= 0; place -= 1) value = value * 256 + (memory.get(`${block} ${first + place}`) ?? (/^block/.test(block) ? setting.initial(block, first + place) : 0));
+    for (let place = size - 1; place >= 0; place -= 1) value = value * 256 + (memory.get(`${block} ${first + place}`)
+      ?? (/^block/.test(block) ? setting.initial(block, first + place) : 0));
     return value;
   };
   const store = ({ block, first, size }, value) => {
@@ -83,7 +87,8 @@ function interleaving({ names, runs, setting }, choose, most = 300) {
     if (!isRead(event.op)) store(event, event.value);
     else {
       const got = event.op === 'choice' ? choose(event.count) : load(event);
-      const written = event.op === 'exchange' || (event.op === 'cas' && got === event.expected) ? event.value : event.op === 'modify' ? event.next(got) : null;
+      const written = event.op === 'exchange' || (event.op === 'cas' && got === event.expected) ? event.value : event.op === 'modify'
+        ? event.next(got) : null;
       if (written !== null) store(event, written);
       agent.values.push(got);
       agent.last = agent.run(agent.values);

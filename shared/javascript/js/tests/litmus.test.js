@@ -15,7 +15,8 @@ const TOO_LARGE = /more than (8 values|24 accesses)|bytes of shared memory, and 
 const MOST_REFUSED = 6;
 
 function sourceOf(litmus) {
-  const agents = litmus.agents.map(({ name }, place) => `${name}() { ${agentCode(litmus, place)}\nconst out = {}; copy(U8, U16, U32, DV, 0, out, 0); return out; }`);
+  const agents = litmus.agents.map(({ name }, place) =>
+    `${name}() { ${agentCode(litmus, place)}\nconst out = {}; copy(U8, U16, U32, DV, 0, out, 0); return out; }`);
   return `const sab = new SharedArrayBuffer(${litmus.bytes});
 const U8 = new Uint8Array(sab), U16 = new Uint16Array(sab, 0, ${litmus.bytes >> 1}), U32 = new Uint32Array(sab, 0, ${litmus.bytes >> 2}), DV = new DataView(sab);
 agents({ ${agents.join(',\n')} });`;
@@ -29,7 +30,8 @@ const valuesIn = ({ ended }, count) => new Set(ended.map((leaves) => {
 }));
 
 const verdictOf = (litmus, registers, outcomes) => {
-  const good = [...outcomes].filter((text) => meets(litmus.condition, (agent, register) => Number(text.split(' ')[registers.indexOf(`${agent}.${register}`)]))).length;
+  const good = [...outcomes].filter((text) =>
+    meets(litmus.condition, (agent, register) => Number(text.split(' ')[registers.indexOf(`${agent}.${register}`)]))).length;
   return good === 0 ? 'never' : good === outcomes.size ? 'always' : 'sometimes';
 };
 

@@ -46,10 +46,13 @@ function* orders(count, before, chosen = [], left = new Set(Array.from({ length:
 class Execution {
   // Events: those that make the bytes first, then the agents', each with `agent` and `place`.
   constructor(ways, initial) {
-    const accesses = ways.flatMap(({ events }, agent) => events.map((event, place) => ({ ...event, agent, place, written: writtenBy(event) })));
+    const accesses = ways.flatMap(({ events }, agent) =>
+      events.map((event, place) => ({ ...event, agent, place, written: writtenBy(event) })));
     const bytes = new Map();
-    for (const { block, first, size } of accesses) for (let byte = first; byte < first + size; byte += 1) bytes.set(`${block} ${byte}`, [block, byte]);
-    const inits = [...bytes.values()].map(([block, first]) => ({ op: 'init', sc: false, noTear: true, block, first, size: 1, written: initial(block, first), agent: -1, place: 0 }));
+    for (const { block, first, size } of accesses) for (let byte = first; byte < first + size; byte += 1) bytes.set(`${block} ${byte}`,
+      [block, byte]);
+    const inits = [...bytes.values()].map(([block, first]) =>
+      ({ op: 'init', sc: false, noTear: true, block, first, size: 1, written: initial(block, first), agent: -1, place: 0 }));
     this.events = [...inits, ...accesses];
     this.byteReads = this.events.flatMap((event, number) => (event.op !== 'init' && isRead(event.op)
       ? Array.from({ length: event.size }, (_, place) => ({ number, byte: event.first + place })) : []));
@@ -59,7 +62,8 @@ class Execution {
   candidates({ number, byte }) {
     const read = this.events[number];
     const wanted = byteOf(read.got, byte - read.first);
-    return this.events.flatMap((event, other) => (other !== number && event.written !== null && event.block === read.block && at(event, byte)
+    return this.events.flatMap((event, other) =>
+      (other !== number && event.written !== null && event.block === read.block && at(event, byte)
       && byteOf(event.written, byte - event.first) === wanted ? [other] : []));
   }
 
@@ -71,11 +75,13 @@ class Execution {
       || (a.op === 'init' && b.op !== 'init' && a.block === b.block && at(b, a.first)))));
     const sw = (w, r) => events[w].op !== 'init' && events[w].sc && events[r].sc && isSame(events[w], events[r]);
     for (const { read, from } of reads) if (sw(from, read)) hb[from][read] = true;
-    for (let k = 0; k < count; k += 1) for (let i = 0; i < count; i += 1) if (hb[i][k]) for (let j = 0; j < count; j += 1) if (hb[k][j]) hb[i][j] = true;
+    for (let k = 0; k < count; k += 1) for (let i = 0; i < count; i += 1) if (hb[i][k]) for (let j = 0; j < count; j += 1) if (
+      hb[k][j]) hb[i][j] = true;
     if (events.some((_, i) => hb[i][i])) return false;
     for (const { read, byte, from } of reads) {
       if (hb[read][from]) return false;
-      if (events.some((v, k) => v.written !== null && k !== from && k !== read && v.block === events[read].block && at(v, byte) && hb[from][k] && hb[k][read])) return false;
+      if (events.some((v, k) => v.written !== null && k !== from && k !== read && v.block === events[read].block && at(v, byte)
+        && hb[from][k] && hb[k][read])) return false;
     }
     for (const { read, from } of reads) {
       for (const other of reads) {

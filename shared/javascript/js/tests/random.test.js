@@ -34,8 +34,10 @@ class Writer {
     this.reads += 1;
     const [view, at] = this.place();
     if (this.isMixed && this.random(2)) return `x = ${view}[${at}]`;
-    return this.pick(`x = Atomics.load(${view}, ${at})`, `x = Atomics.load(${view}, ${at})`, `x = Atomics.exchange(${view}, ${at}, ${this.value()})`,
-      `x = Atomics.${this.pick('add', 'sub', 'or', 'xor', 'and')}(${view}, ${at}, ${this.pick('1', '2', 'x')})`, `x = Atomics.compareExchange(${view}, ${at}, ${this.pick('0', '1', 'x')}, ${this.value()})`);
+    return this.pick(`x = Atomics.load(${view}, ${at})`, `x = Atomics.load(${view}, ${at})`,
+      `x = Atomics.exchange(${view}, ${at}, ${this.value()})`,
+      `x = Atomics.${this.pick('add', 'sub', 'or', 'xor', 'and')}(${view}, ${at}, ${this.pick('1', '2', 'x')})`,
+        `x = Atomics.compareExchange(${view}, ${at}, ${this.pick('0', '1', 'x')}, ${this.value()})`);
   }
 
   write() {
@@ -53,7 +55,8 @@ class Writer {
   }
 
   source() {
-    const agents = ['A', 'B'].map((name) => `${name}() { let x = 0; const out = []; ${Array.from({ length: 2 }, () => this.statement(0)).join(' ')} return out; }`);
+    const agents = ['A', 'B'].map((name) =>
+      `${name}() { let x = 0; const out = []; ${Array.from({ length: 2 }, () => this.statement(0)).join(' ')} return out; }`);
     return `const sab = new SharedArrayBuffer(8); const b = new Uint8Array(sab), s = new Int8Array(sab), w = new Uint16Array(sab), i = new Int32Array(sab);
 b[1] = ${this.random(3)};\nagents({ ${agents.join(',\n')} });`;
   }
@@ -89,5 +92,7 @@ async function tried(isMixed) {
   return compared;
 }
 
-test(`${COUNT} programs of atomics of one size have just the outcomes of their interleavings`, async (t) => { t.diagnostic(`${await tried(false)} compared`); });
-test(`${COUNT} programs of mixed sizes, plain and atomic, have all outcomes of their interleavings`, async (t) => { t.diagnostic(`${await tried(true)} compared`); });
+test(`${COUNT} programs of atomics of one size have just the outcomes of their interleavings`,
+  async (t) => { t.diagnostic(`${await tried(false)} compared`); });
+test(`${COUNT} programs of mixed sizes, plain and atomic, have all outcomes of their interleavings`,
+  async (t) => { t.diagnostic(`${await tried(true)} compared`); });

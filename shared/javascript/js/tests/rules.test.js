@@ -21,7 +21,8 @@ async function same(body, list, setup = '', allTurns = false) {
 }
 
 test('the model by brute force allows what is known of store buffering and message passing', async () => {
-  const sb = await same('A() { Atomics.store(b, 0, 1); return Atomics.load(b, 1); }, B() { Atomics.store(b, 1, 1); return Atomics.load(b, 0); }', [0, 1]);
+  const sb = await same(
+    'A() { Atomics.store(b, 0, 1); return Atomics.load(b, 1); }, B() { Atomics.store(b, 1, 1); return Atomics.load(b, 0); }', [0, 1]);
   assert.equal(sb.outcomes.length, 3);
   const plain = await same('A() { b[0] = 1; return b[1]; }, B() { b[1] = 1; return b[0]; }', [0, 1]);
   assert.equal(plain.outcomes.length, 4);
@@ -32,7 +33,8 @@ test('the model by brute force allows what is known of store buffering and messa
 test('a read that is dropped loses no outcome: a loop that looks again', async () => {
   await same('A() { b[1] = 1; Atomics.store(b, 0, 1); }, B() { while (Atomics.load(b, 0) === 0); return b[1]; }', [0, 1], '', true);
   await same('A() { b[1] = 1; b[0] = 1; }, B() { while (b[0] === 0); return b[1]; }', [0, 1], '', true);
-  await same('A() { while (Atomics.exchange(b, 0, 1) === 1); b[1] += 1; Atomics.store(b, 0, 0); return b[1]; }, B() { return [Atomics.load(b, 0), b[1]]; }', [0, 1], '', true);
+  await same('A() { while (Atomics.exchange(b, 0, 1) === 1); b[1] += 1; Atomics.store(b, 0, 0); return b[1]; }, '
+    + 'B() { return [Atomics.load(b, 0), b[1]]; }', [0, 1], '', true);
 });
 
 test('add is a load and a compareExchange of what was seen', async () => {
@@ -44,9 +46,11 @@ test('add is a load and a compareExchange of what was seen', async () => {
 
 test('initial contents by xor', async () => {
   await same('A() { b[0] = 7; return b[1]; }, B() { b[1] = 5; return b[0]; }', [3, 7, 9, 5], 'b[0] = 3; b[1] = 9;');
-  await same('A() { return Atomics.compareExchange(b, 0, 3, 4); }, B() { return Atomics.compareExchange(b, 0, 3, 5); }', [3, 4, 5], 'b[0] = 3;');
+  await same('A() { return Atomics.compareExchange(b, 0, 3, 4); }, B() { return Atomics.compareExchange(b, 0, 3, 5); }', [3, 4, 5],
+    'b[0] = 3;');
   await same('A() { w[0] = 0x0201; }, B() { const r = b[0]; return r === 5 ? b[1] : r; }', [5, 6, 1, 2], 'b[0] = 5; b[1] = 6;');
-  await same('A() { if (b[0] === 3) b[1] = 1; }, B() { return b[1] === 2 ? b[2] : w[1]; }', [0, 1, 2, 3, 4], 'b[0] = 3; b[1] = 2; b[2] = 4;');
+  await same('A() { if (b[0] === 3) b[1] = 1; }, B() { return b[1] === 2 ? b[2] : w[1]; }', [0, 1, 2, 3, 4],
+    'b[0] = 3; b[1] = 2; b[2] = 4;');
   await same('A() { b[0] = 1; }, B() { return [w[0], b[0]]; }', [1, 0x0203, 0x0201, 3], 'b[0] = 3; b[1] = 2;');
 });
 
@@ -57,36 +61,45 @@ test('a word as one byte: values that differ from the initial one in one byte', 
 });
 
 test('a word as one byte: atomics alone, numbered', async () => {
-  await same('A() { Atomics.store(w, 0, 0x0102); return Atomics.load(w, 0); }, B() { Atomics.store(w, 0, 0x0301); return Atomics.load(w, 0); }', [0, 0x0102, 0x0301]);
+  await same('A() { Atomics.store(w, 0, 0x0102); return Atomics.load(w, 0); }, '
+    + 'B() { Atomics.store(w, 0, 0x0301); return Atomics.load(w, 0); }', [0, 0x0102, 0x0301]);
   await same('A() { return Atomics.exchange(w, 0, -1); }, B() { return Atomics.compareExchange(w, 0, -1, 258); }', [0, 0xffff, 258]);
 });
 
 test('words that are torn keep their bytes', async () => {
   const torn = await same('A() { d.setUint16(0, 0x0101, true); }, B() { return d.getUint16(0, true); }', [0, 1, 0x0100, 0x0101]);
   assert.equal(torn.outcomes.length, 4);
-  await same('A() { w[0] = 0x0101; }, B() { return w[0]; }, C() { w[0] = 0x0202; }', [0, 1, 2, 0x0100, 0x0101, 0x0102, 0x0200, 0x0201, 0x0202]);
+  await same('A() { w[0] = 0x0101; }, B() { return w[0]; }, C() { w[0] = 0x0202; }',
+    [0, 1, 2, 0x0100, 0x0101, 0x0102, 0x0200, 0x0201, 0x0202]);
 });
 
 test('values out of thin air: rings through plain accesses, and through atomics of unequal ranges', async () => {
   const plain = 'left() { const r = b[0]; if (r === 1) w[2] = 1; return r; }, right() { const r = b[4]; if (r === 1) w[0] = 1; return r; }';
   assert.equal((await same(plain, [0, 1])).outcomes.length, 2);
-  const atomic = 'left() { const r = Atomics.load(b, 0); if (r === 1) Atomics.store(w, 2, 1); return r; }, right() { const r = Atomics.load(b, 4); if (r === 1) Atomics.store(w, 0, 1); return r; }';
+  const atomic = 'left() { const r = Atomics.load(b, 0); if (r === 1) Atomics.store(w, 2, 1); return r; }, '
+    + 'right() { const r = Atomics.load(b, 4); if (r === 1) Atomics.store(w, 0, 1); return r; }';
   assert.equal((await same(atomic, [0, 1])).outcomes.length, 2);
-  const equal = 'left() { const r = Atomics.load(b, 0); if (r === 1) Atomics.store(b, 1, 1); return r; }, right() { const r = Atomics.load(b, 1); if (r === 1) Atomics.store(b, 0, 1); return r; }';
+  const equal = 'left() { const r = Atomics.load(b, 0); if (r === 1) Atomics.store(b, 1, 1); return r; }, '
+    + 'right() { const r = Atomics.load(b, 1); if (r === 1) Atomics.store(b, 0, 1); return r; }';
   assert.equal((await same(equal, [0, 1])).outcomes.length, 1);
-  await same('A() { const r = b[0]; if (r === 42) b[1] = 42; return r; }, B() { const r = b[1]; if (r > 40) b[2] = 42; return r; }, C() { const r = b[2]; if (r === 42) b[0] = r; return r; }', [0, 42]);
-  await same('A() { const r = b[0]; if (r === 7) Atomics.store(b, 1, 7); return r; }, B() { const r = Atomics.load(b, 1); if (r === 7) b[0] = 7; return r; }', [0, 7]);
+  await same('A() { const r = b[0]; if (r === 42) b[1] = 42; return r; }, '
+    + 'B() { const r = b[1]; if (r > 40) b[2] = 42; return r; }, C() { const r = b[2]; if (r === 42) b[0] = r; return r; }', [0, 42]);
+  await same('A() { const r = b[0]; if (r === 7) Atomics.store(b, 1, 7); return r; }, '
+    + 'B() { const r = Atomics.load(b, 1); if (r === 7) b[0] = 7; return r; }', [0, 7]);
 });
 
 test('values that are copied round are told', async () => {
-  const { thin, outcomes } = await answered(`${HEAD}agents({ A() { const r = b[0]; b[1] = r; return r; }, B() { const r = b[1]; b[0] = r; return r; } });`);
+  const { thin, outcomes } = await answered(
+    `${HEAD}agents({ A() { const r = b[0]; b[1] = r; return r; }, B() { const r = b[1]; b[0] = r; return r; } });`);
   assert.match(thin.notes[0], /may have any value, out of thin air/);
   assert.ok(outcomes.some(({ text }) => text === 'A: 1   B: 1'));
 });
 
 test('a loop that writes what it reads, beside a plain store', async () => {
-  const { program } = await answered(`${HEAD}agents({ A() { while (Atomics.exchange(b, 0, 1) === 1); b[0] = 0; }, B() { while (Atomics.exchange(b, 0, 1) === 1); b[0] = 0; } });`);
+  const { program } = await answered(
+    `${HEAD}agents({ A() { while (Atomics.exchange(b, 0, 1) === 1); b[0] = 0; }, B() { while (Atomics.exchange(b, 0, 1) === 1); b[0] = 0; } });`);
   assert.match([...program.notes.keys()][0], /two of its turns are followed/);
-  const good = await answered(`${HEAD}agents({ A() { while (Atomics.exchange(b, 0, 1) === 1); Atomics.store(b, 0, 0); }, B() { while (Atomics.exchange(b, 0, 1) === 1); Atomics.store(b, 0, 0); } });`);
+  const good = await answered(
+    `${HEAD}agents({ A() { while (Atomics.exchange(b, 0, 1) === 1); Atomics.store(b, 0, 0); }, B() { while (Atomics.exchange(b, 0, 1) === 1); Atomics.store(b, 0, 0); } });`);
   assert.equal(good.program.notes.size, 0);
 });

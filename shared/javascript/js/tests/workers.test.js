@@ -43,7 +43,8 @@ function lookedAt(source) {
   let names = [];
   const Block = new Proxy(SharedArrayBuffer, { construct(Real, [size]) { sizes.push(size); return new Real(size); } });
   const memory = { Memory: class { constructor({ initial }) { this.buffer = new Block(initial * 65536); } } };
-  new Function('SharedArrayBuffer', 'WebAssembly', 'agents', 'console', source)(Block, memory, (all) => { names = Object.keys(all); }, { log() {} });
+  new Function('SharedArrayBuffer', 'WebAssembly', 'agents', 'console', source)(Block, memory, (all) => { names = Object.keys(all); },
+    { log() {} });
   return { sizes, names };
 }
 
@@ -51,9 +52,11 @@ async function seen(source) {
   const { sizes, names } = lookedAt(source);
   const blocks = Array.from({ length: TIMES }, () => sizes.map((size) => new SharedArrayBuffer(size)));
   const control = new SharedArrayBuffer(4);
-  const workers = names.map((name) => new Worker(WORKER, { eval: true, workerData: { source, name, count: names.length, control, blocks, sizes } }));
+  const workers = names.map((name) =>
+    new Worker(WORKER, { eval: true, workerData: { source, name, count: names.length, control, blocks, sizes } }));
   const late = new Promise((done) => setTimeout(done, PATIENCE, null).unref());
-  const results = await Promise.race([late, Promise.all(workers.map((worker) => new Promise((done, failed) => worker.on('message', done).on('error', failed))))]);
+  const results = await Promise.race(
+    [late, Promise.all(workers.map((worker) => new Promise((done, failed) => worker.on('message', done).on('error', failed))))]);
   await Promise.all(workers.map((worker) => worker.terminate()));
   return results && { names, results };
 }
@@ -76,7 +79,8 @@ test('samples on real workers', async (t) => {
       const { value, threw } = made.results[place][time];
       return threw ? `${agent}: throws ${threw}` : value.type === 'undefined' ? '' : `${agent}: ${shown(value)}`;
     }).filter(Boolean).join('   ')));
-    for (const text of texts) assert.ok(told.has(text || '(nothing is returned or printed)') || told.has(text), `${name}: ${text} was seen and isn't told`);
+    for (const text of texts) assert.ok(told.has(text || '(nothing is returned or printed)') || told.has(text),
+      `${name}: ${text} was seen and isn't told`);
     said.push(`${name} ${texts.size} of ${told.size}`);
   }
   t.diagnostic(said.join(', '));
