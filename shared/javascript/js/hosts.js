@@ -8,7 +8,7 @@ const NAME = 28;   // characters of an agent's name, so that a number fits behin
 
 function nameOf(run, wanted) {
   const plain = wanted.replace(/\W/g, '_').replace(/^(?=\d)/, 'w').slice(0, NAME);
-  const taken = new Set(run.starts.map(({ name }) => name));
+  const taken = new Set(['main', ...run.starts.map(({ name }) => name)]);
   let name = plain;
   for (let number = 2; taken.has(name); number += 1) name = `${plain}_${number}`;
   return name;
@@ -85,9 +85,12 @@ function threadsOf(run, globals) {
   run.deliver = (data) => {
     const event = Object.assign(new run.global.Object(), { data: run.rebuilt(data) });
     if (typeof run.global.onmessage === 'function') run.global.onmessage(event);
-    listeners.forEach(({ act, isRaw }) => act(isRaw ? event.data : event));
+    for (const listener of [...listeners]) {
+      if (listener.isOnce) listeners.splice(listeners.indexOf(listener), 1);
+      listener.act(listener.isRaw ? event.data : event);
+    }
   };
-  const listen = (isRaw) => (what, act) => { if (what === 'message') listeners.push({ act, isRaw }); };
+  const listen = (isRaw, isOnce) => (what, act) => { if (what === 'message') listeners.push({ act, isRaw, isOnce }); };
   const post = (value) => {
     run.logs.push(run.shown(value));
     run.send(run.data(value));
@@ -96,7 +99,7 @@ function threadsOf(run, globals) {
   const close = () => undefined;
   return {
     Worker: globals.Worker, isMainThread: !isWorker, workerData: null, threadId: isWorker ? run.program.numberOf(run.role) : 0,
-    parentPort: isWorker ? { postMessage: post, on: listen(true), once: listen(true), close, unref: close } : null,
+    parentPort: isWorker ? { postMessage: post, on: listen(true), once: listen(true, true), close, unref: close } : null,
   };
 }
 

@@ -8,7 +8,7 @@ const { globalsOf } = require('./hosts.js');
 const { install } = require('./memory.js');
 const { Refusal, busiest } = require('./refusal.js');
 const { States } = require('./state.js');
-const { NoData, dataOf, valueOf } = require('./values.js');
+const { NoData, blocksIn, dataOf, shown, valueOf } = require('./values.js');
 
 const PATIENCE = 5000;   // milliseconds that a run may take
 const MOST = 24;         // accesses of a run, as the program has it of all agents together
@@ -211,13 +211,21 @@ class Run {
 
   // What an agent gives as its outcome.
   outcome(value) {
+    if (typeof value === 'function' || typeof value === 'symbol') return { type: 'undefined' };
+    return this.plain(value, 'as an outcome: give its elements, as plain data', this.role?.at ?? null);
+  }
+
+  // Data in which no shared memory is.
+  plain(value, where, at) {
+    let what = 'shared memory';
     try {
-      return dataOf(value, this.realm);
+      const data = dataOf(value, this.realm);
+      if (blocksIn(data).length === 0) return data;
     } catch (error) {
       if (!(error instanceof NoData)) throw error;
-      return typeof value === 'function' || typeof value === 'symbol'
-        ? { type: 'undefined' } : this.refuse(`${error.message} isn't followed as an outcome: give plain data`, this.role?.at ?? null);
+      what = error.message;
     }
+    return this.refuse(`${what} isn't followed ${where}`, at);
   }
 
   rebuilt(data) {
@@ -231,7 +239,6 @@ class Run {
       __random: () => this.refuse('random numbers aren\'t followed: put a number in the place of each'),
       __function: (made, closed, name) => {
         this.states.closures.set(made, closed);
-        if (name !== null && made.name === '__anonymous') Object.defineProperty(made, 'name', { value: name });
         if (name !== null && made.name === '') Object.defineProperty(made, 'name', { value: name, configurable: true });
         return made;
       },
@@ -312,7 +319,8 @@ class Run {
   }
 
   shown(value) {
-    return typeof value === 'string' ? JSON.stringify(value) : util.inspect(value, { breakLength: Infinity, compact: true });
+    const isPlain = value === null || (typeof value !== 'object' && typeof value !== 'function');
+    return isPlain ? util.inspect(value) : shown(this.plain(value, 'where it is printed: print its elements, as plain data'));
   }
 
   caught(error) {

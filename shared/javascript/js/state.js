@@ -13,7 +13,7 @@ const GLOBALS = `Object Function Array String Number Boolean Symbol Math JSON Ma
 
 const isOpaque = (value) => types.isProxy(value) || types.isGeneratorObject(value) || types.isMapIterator(value)
   || types.isSetIterator(value)
-  || types.isWeakMap(value) || types.isWeakSet(value) || types.isPromise(value) || types.isExternal(value)
+  || types.isBoxedPrimitive(value) || types.isWeakMap(value) || types.isWeakSet(value) || types.isPromise(value) || types.isExternal(value)
     || types.isModuleNamespaceObject(value);
 
 // What a function says of its calls at the moment: nothing that it keeps.
@@ -117,7 +117,6 @@ class Looking {
     if (types.isSet(object)) for (const value of Set.prototype.values.call(object)) this.value(value);
     if (types.isDate(object)) this.words.push(String(Date.prototype.getTime.call(object)));
     if (types.isAnyArrayBuffer(object)) this.bytes(object);
-    if (types.isBoxedPrimitive(object)) this.value(object.valueOf());
     if (ArrayBuffer.isView(object)) this.value(object.buffer);
     else for (const name of Reflect.ownKeys(object)) if (!isOfCalls(object, name)) this.property(object, name);
     for (const read of states.hidden) read(object).forEach((value) => this.value(value));
