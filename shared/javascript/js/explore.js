@@ -5,12 +5,48 @@
 const { Layout } = require('./layout.js');
 const { Refusal } = require('./refusal.js');
 const { Texts, walk } = require('./texts.js');
-const { plant } = require('./trees.js');
+const { keyOf } = require('./run.js');
+const { each, plant } = require('./trees.js');
 const { seedsOf } = require('./thin.js');
 
 const MOST_ROUNDS = 200;
+const MOST_WAYS = 200000;
 const MOST_RESTARTS = 20;
 const MOST_SOWN = 3;
+
+// The values that each range has in the trees.
+function valuesIn(trees) {
+  const values = new Map();
+  const see = (event, value) => values.set(keyOf(event), (values.get(keyOf(event)) ?? new Set([0])).add(value));
+  for (const { root } of trees.list) {
+    each(root, ({ event, kids }) => {
+      if (event.value !== undefined) see(event, event.value);
+      kids?.forEach((_, value) => see(event, value));
+    });
+  }
+  return values;
+}
+
+// How many ways a tree will have in a text, at about: a read of which nothing is known yet may have all values of its range.
+function waysIn(node, values) {
+  let at = node;
+  while (at && !at.leaf && !at.kids) at = at.next;
+  if (!at?.kids) return 1;
+  if (at.kids.size === 0) return values.get(keyOf(at.event))?.size ?? 1;
+  return [...at.kids.values()].reduce((sum, kid) => sum + waysIn(kid, values), 0);
+}
+
+// A report has a line for each way that the agents may go together: so many are too many.
+function seeWays(trees) {
+  const values = valuesIn(trees);
+  const counts = trees.list.map(({ root }) => waysIn(root, values));
+  if (counts.reduce((all, ways) => all * ways, 1) <= MOST_WAYS) return;
+  const { name, root } = trees.list[counts.indexOf(Math.max(...counts))];
+  let read = root;
+  while (read.kids === undefined) read = read.next;
+  throw new Refusal(`the agents read their values in more than ${MOST_WAYS.toLocaleString('en')} ways together, `
+    + `${name} in ${Math.max(...counts)} from here on: take fewer agents, turns or accesses`, read.event.at);
+}
 
 // Whether the agents on these ways were woken no more often than they were notified.
 function areNotified(ways) {
@@ -36,6 +72,7 @@ class Exploring {
 
   // The outcomes of one round, each as the leaves of its ways, and the values that aren't known yet, for each agent.
   async round(trees) {
+    seeWays(trees);
     const layout = new Layout(trees);
     const texts = new Texts(this.name, trees, layout);
     const made = { layout, texts, ended: [], unknown: trees.list.map(() => new Map()), race: false };

@@ -11,7 +11,7 @@ const { answered, ask } = require('./asking.js');
 const { Refusal } = require('../refusal.js');
 
 const FOLDER = path.resolve(__dirname, '..', '..', '..', '..', 'litmus');
-const TOO_LARGE = /more than (8 values|24 accesses)|bytes of shared memory, and 32|more than \d+ ways|too many/;
+const TOO_LARGE = /more than (8 values|24 accesses)|bytes of shared memory, and 32|more than [\d,]+ ways|too many/;
 const MOST_REFUSED = 6;
 
 function sourceOf(litmus) {
