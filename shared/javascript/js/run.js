@@ -2,17 +2,19 @@
 // One run of the main file, or of an agent, access by access: reads get the values that it is given, and where these come to an end
 // it pauses at the next read.
 
+const fs = require('fs');
+const path = require('path');
 const util = require('util');
 const vm = require('vm');
 const { globalsOf } = require('./hosts.js');
-const { install } = require('./memory.js');
 const { Refusal, busiest } = require('./refusal.js');
 const { States } = require('./state.js');
 const { NoData, blocksIn, dataOf, shown, valueOf } = require('./values.js');
 
 const PATIENCE = 5000;   // milliseconds that a run may take
 const MOST = 24;         // accesses of a run, as the program has it of all agents together
-const INSTALL = new vm.Script(`(${install})`, { filename: 'memory.js' });
+const MEMORY = path.join(__dirname, 'memory.js');
+const INSTALL = new vm.Script(`(function (host) {${fs.readFileSync(MEMORY, 'utf8')}\nreturn memory;})`, { filename: 'memory.js' });
 Error.stackTraceLimit = 60;
 
 class Ends extends Error {}   // a run ends here, whatever the code would do next
