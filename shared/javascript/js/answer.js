@@ -6,6 +6,7 @@ const { Refusal } = require('./refusal.js');
 const { shown, valueOf } = require('./values.js');
 
 const PATIENCE = 1000;   // milliseconds for a check of an outcome
+const PERHAPS = 'of Atomics.wait and notify the wake-ups are followed, and not the queue: what is marked (perhaps) may be impossible';
 const VERDICTS = { all: 'always', some: 'sometimes', none: 'never' };
 
 // `// check: A !== B` on a line of its own, the last one of all files: {text, file, line}, or null.
@@ -85,13 +86,12 @@ function linesOf(answer, { texts, race, notes }) {
   const lines = outcomes.map(({ text, holds, isPerhaps }) =>
     `outcome  ${text || '(nothing is returned or printed)'}${holds ? '' : '   FAILS'}${isPerhaps ? '   (perhaps)' : ''}`);
   lines.push(`outcomes ${outcomes.length}`);
-  if (verdict !== null) lines.push(
-    `check ${verdict}${verdict === 'always' ? '' : `, fails in ${outcomes.filter(({ holds }) => !holds).length} of ${outcomes.length}`}`);
+  const failing = outcomes.filter(({ holds }) => !holds).length;
+  if (verdict !== null) lines.push(`check ${verdict}${verdict === 'always' ? '' : `, fails in ${failing} of ${outcomes.length}`}`);
   lines.push(`data race ${race ? 'yes' : 'none found'}`);
   if (outcomes.length === 0) lines.push('note: no execution ends: each has a loop that waits for what no agent does');
   for (const note of notes) lines.push(`note: ${note}`);
-  if (outcomes.some(({ isPerhaps }) => isPerhaps)) lines.push(
-    'note: of Atomics.wait and notify the wake-ups are followed, and not the queue: what is marked (perhaps) may be impossible');
+  if (outcomes.some(({ isPerhaps }) => isPerhaps)) lines.push(`note: ${PERHAPS}`);
   const [of, them] = texts === 1 ? ['one text', 'it'] : [`${texts} texts`, 'them'];
   lines.push(`proved: the outcomes of ${of} (--text prints ${them}); tested, not proved: that these are this program. `
     + 'Executions that end are listed, no others.');

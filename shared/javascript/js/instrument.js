@@ -68,8 +68,7 @@ class Marks {
       const parent = ancestors[ancestors.length - 2];
       if (LOOPS.has(node.type) && node.type !== 'ForOfStatement' && node.type !== 'ForInStatement') this.loop(node, ancestors);
       else if (node.type === 'FunctionDeclaration') this.declaration(node, ancestors);
-      else if (FUNCTIONS.has(node.type) && !['MethodDefinition'].includes(parent.type) && !isMethod(parent, node)) this.expression(node,
-        parent);
+      else if (FUNCTIONS.has(node.type)) this.expression(node, parent);
       else if (node.type === 'ObjectExpression' && node.properties.some((each) => isMethod(each, each.value))) {
         this.edits.around(node, '__methods(', `,${this.closed(node)})`);
       } else if (CLASSES.has(node.type)) this.class(node);
@@ -82,6 +81,7 @@ class Marks {
 
   // `parent` gives a function without a name its own.
   expression(node, parent) {
+    if (parent.type === 'MethodDefinition' || isMethod(parent, node)) return;   // its class or object tells of it
     const names = { VariableDeclarator: parent.id, AssignmentExpression: parent.left, AssignmentPattern: parent.left,
       Property: parent.computed ? null : parent.key };
     const isNamed = node.type === 'FunctionExpression' && node.id;
@@ -112,9 +112,8 @@ class Marks {
     const dead = deadAt(node, this.scopes.of.get(ownerNode), this.scopes);
     const own = node.init?.type === 'VariableDeclaration' && node.init.kind !== 'var'
       ? node.init.declarations.flatMap((each) => namesIn(each.id)) : [];
-    const names = [...this.scopes.freeIn(node)].filter(([name, scope]) => scope !== null && !dead.has(name) && name !== 'arguments')
-      .map(([name]) => name);
-    const state = getters([...new Set([...names, ...own]), ...this.usesThis(node) ? ['this'] : []]);
+    const names = [...this.scopes.freeIn(node)].filter(([name, scope]) => scope !== null && !dead.has(name)).map(([name]) => name);
+    const state = getters([...new Set([...names, ...own]), ...(this.usesThis(node) ? ['this'] : [])]);
     const id = `__loop${this.loops += 1}`;
     const head = `${id}(${state})`;
     const labels = [];

@@ -130,7 +130,8 @@ Way.prototype.pattern = function pattern(node) {
 
 // The names, of those that the loop names, that are dead at its head. `owner` is the function, or program, that it stands in.
 function deadAt(loop, owner, scopes) {
-  if (contains(owner.node, ['TryStatement', 'YieldExpression', 'AwaitExpression', 'WithStatement'])) return new Set();
+  const hasArguments = scopes.uses.some((use) => use.name === 'arguments' && use.declared?.outermost === owner);
+  if (hasArguments || contains(owner.node, ['TryStatement', 'YieldExpression', 'AwaitExpression', 'WithStatement'])) return new Set();
   const local = [...scopes.freeIn(loop)].filter(([name, scope]) => scope !== null && isLocal(name, scope, owner, scopes))
     .map(([name]) => name);
   const way = new Way(local, loop.type === 'WhileStatement');
