@@ -11,6 +11,7 @@ COMMANDS = {
     "jslit-draw": "draw an execution of a litmus test",
     "jslit-engine": "run litmus tests on real engines",
     "jslit-explain": "explain why a litmus text is refused",
+    "jslit-js": "the outcomes that the memory model allows JavaScript on shared memory",
     "jslit-json": "reports of jslit as JSON, and back",
     "jslit-page": "litmus tests in a browser",
     "jslit-test262": "write a litmus test as a file of test262",

@@ -112,7 +112,8 @@ ATOMICS = [
     (r"\b[aA]tomics?\s*(?:\.|::)\s*", "Atomics.", "the accesses are Atomics.load, store, exchange and compareExchange"),
     (r"Atomics\.(add|sub|and|or|xor|increment|fetch_add|fetchAdd)\b", None,
      "there is no Atomics.add, sub, and, or, xor: where n is the value that is there, `r0 = Atomics.compareExchange(U8, 0, n, n + 1)` "
-     "with the numbers put in does it"),
+     "with the numbers put in does it, and outcomes in which r0 isn't n stand for no execution: ask for r0 == n in `check`; "
+     "jslit-js takes the JavaScript as it is"),
     (r"Atomics\.(wait|waitAsync|notify|isLockFree|pause)\b", None, "there is no waiting and no waking: load the flag, and go on in an `if`"),
     (r"Atomics\.(\w+)\s*\(", method, "the accesses are Atomics.load, store, exchange and compareExchange"),
     (r"Atomics\.(\w+)\(U(8|16|32)\[(\d+)\]", r"Atomics.\1(U\2, \3", "array and index are two arguments"),

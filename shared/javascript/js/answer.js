@@ -1,0 +1,101 @@
+'use strict';
+// The answer: outcomes by what the agents return and print, and whether the check holds.
+
+const vm = require('vm');
+const { Refusal } = require('./refusal.js');
+const { shown, valueOf } = require('./values.js');
+
+const PATIENCE = 1000;   // milliseconds for a check of an outcome
+const PERHAPS = 'of Atomics.wait and notify the wake-ups are followed, and not the queue: what is marked (perhaps) may be impossible';
+const VERDICTS = { all: 'always', some: 'sometimes', none: 'never' };
+
+// `// check: A !== B` on a line of its own, the last one of all files: {text, file, line}, or null.
+function checkIn(files) {
+  let found = null;
+  for (const [file, source] of files) {
+    source.split('\n').forEach((line, place) => {
+      const text = /^\s*\/\/\s*check:\s*(.*?);?\s*$/.exec(line)?.[1];
+      if (text) found = { text, file, line: place + 1 };
+    });
+  }
+  return found;
+}
+
+// What an agent gives: what it printed, and what it returned, threw, or which assertion failed.
+function told(leaf) {
+  const words = [...leaf.logs];
+  if (leaf.end === 'threw') words.push(`throws ${leaf.value}`);
+  else if (leaf.value !== undefined && leaf.value.type !== 'undefined') words.push(shown(leaf.value));
+  for (const { at, text } of leaf.failed) words.push(`fails the assertion of line ${at?.line}${text ? `, ${text}` : ''}`);
+  return words.join(' | ');
+}
+
+// An agent's value in a check: what it returned, or else the list of what it printed.
+const dataIn = (leaf) => (leaf.end === 'threw' ? { type: 'error', name: 'Error', message: leaf.value }
+  : leaf.value === undefined && leaf.logs.length ? { type: 'array', items: leaf.logs.map((value) => ({ type: 'string', value })) }
+    : leaf.value ?? { type: 'undefined' });
+
+class Check {
+  constructor({ text, file, line }) {
+    Object.assign(this, { text, at: { file, line } });
+    try {
+      this.script = new vm.Script(`(${text})`, { filename: 'check' });
+    } catch (error) {
+      throw this.refusal(error);
+    }
+  }
+
+  refusal(error) {
+    return new Refusal(`this check can't be worked out: ${error.message}`, this.at);
+  }
+
+  holds(names, leaves) {
+    const context = vm.createContext();
+    const global = vm.runInContext('globalThis', context);
+    names.forEach((name, place) => { global[name] = valueOf(dataIn(leaves[place]), global); });
+    try {
+      return Boolean(this.script.runInContext(context, { timeout: PATIENCE }));
+    } catch (error) {
+      throw this.refusal(error);
+    }
+  }
+}
+
+// {outcomes: [{text, leaves, isPerhaps, holds}], verdict (null where nothing is asked)}.
+function answerOf(names, ended, asked) {
+  const check = asked && new Check(asked);
+  const outcomes = new Map();
+  for (const leaves of ended) {
+    const text = leaves.map((leaf, place) => [names[place], told(leaf)]).filter(([, words]) => words !== '')
+      .map(([name, words]) => `${name}: ${words}`).join('   ');
+    const holds = leaves.every(({ failed, end }) => failed.length === 0 && end !== 'assert')
+      && (check === null || check.holds(names, leaves));
+    const isPerhaps = leaves.some((leaf) => leaf.isPerhaps);
+    const known = outcomes.get(text);
+    if (known) Object.assign(known, { isPerhaps: known.isPerhaps && isPerhaps, holds: known.holds && holds });
+    else outcomes.set(text, { text, isPerhaps, holds });
+  }
+  const list = [...outcomes.values()].sort((a, b) => (a.text < b.text ? -1 : 1));
+  const good = list.filter(({ holds }) => holds).length;
+  const isAsked = check !== null || ended.some((leaves) => leaves.some(({ failed }) => failed.length));
+  return { outcomes: list, verdict: isAsked ? VERDICTS[good === 0 ? 'none' : good === list.length ? 'all' : 'some'] : null };
+}
+
+function linesOf(answer, { texts, race, notes }) {
+  const { outcomes, verdict } = answer;
+  const lines = outcomes.map(({ text, holds, isPerhaps }) =>
+    `outcome  ${text || '(nothing is returned or printed)'}${holds ? '' : '   FAILS'}${isPerhaps ? '   (perhaps)' : ''}`);
+  lines.push(`outcomes ${outcomes.length}`);
+  const failing = outcomes.filter(({ holds }) => !holds).length;
+  if (verdict !== null) lines.push(`check ${verdict}${verdict === 'always' ? '' : `, fails in ${failing} of ${outcomes.length}`}`);
+  lines.push(`data race ${race ? 'yes' : 'none found'}`);
+  if (outcomes.length === 0) lines.push('note: no execution ends: each has a loop that waits for what no agent does');
+  for (const note of notes) lines.push(`note: ${note}`);
+  if (outcomes.some(({ isPerhaps }) => isPerhaps)) lines.push(`note: ${PERHAPS}`);
+  const [of, them] = texts === 1 ? ['one text', 'it'] : [`${texts} texts`, 'them'];
+  lines.push(`proved: the outcomes of ${of} (--text prints ${them}); tested, not proved: that these are this program. `
+    + 'Executions that end are listed, no others.');
+  return lines;
+}
+
+module.exports = { answerOf, checkIn, linesOf };

@@ -1,0 +1,131 @@
+'use strict';
+// What the tests share: programs from texts, answers from the program, and interleavings of the code itself.
+
+const path = require('path');
+const { execFile } = require('child_process');
+const { ReportReader } = require('../../report.js');
+const { answerOf, checkIn } = require('../answer.js');
+const { Exploring } = require('../explore.js');
+const { Run, isRead, keyOf } = require('../run.js');
+const { Program, plant } = require('../trees.js');
+
+const PROGRAM = process.env.JSLIT || path.resolve(__dirname, '..', '..', '..', '..', 'jslit');
+
+function ask(text, program = PROGRAM) {
+  return new Promise((done, failed) => {
+    const child = execFile(program, [], { encoding: 'latin1', maxBuffer: 2 ** 30 }, (error, printed) => {
+      const told = { registers: [], outcomes: [], race: false };
+      const reader = new ReportReader((part) => {
+        if (part.begins) told.registers = part.begins.registers;
+        else if (part.outcome) told.outcomes.push(part.outcome.values);
+        else if (part.ends) told.race = part.ends.data_race;
+        else failed(new Error(`${JSON.stringify(part.all)} of\n${text}`));
+      });
+      for (const line of printed.split('\n').slice(0, -1)) reader.line(line);
+      reader.line(null);
+      done(told);
+    });
+    child.stdin.end(text);
+  });
+}
+
+const programOf = (source, main = 'main.js') => new Program(new Map([[main, source]]), main);
+
+// The answer on a source, with the trees that it came from.
+async function answered(source, main = 'main.js') {
+  const program = programOf(source, main);
+  const made = await new Exploring(program, 'it', ask).whole();
+  const names = made.trees.list.map(({ name }) => name);
+  return { ...answerOf(names, made.ended, checkIn(program.files)), ...made, names, program };
+}
+
+const textsOf = (answer) => new Set(answer.outcomes.map(({ text }) => text));
+
+// The agents of a source as functions of the values that they read, each turn of their loops with them.
+function agentsOf(source, allTurns, main = 'main.js') {
+  const program = programOf(source, main);
+  const { list, setting } = plant(program);
+  const free = { ...setting, allTurns, most: 400 };
+  return { names: list.map(({ name }) => name), runs: list.map(({ role }) => kept((values) => new Run(program, role, values, free).go())),
+    setting };
+}
+
+function kept(run) {
+  const known = new Map();
+  return (values) => {
+    const key = values.join();
+    if (!known.has(key)) known.set(key, run(values));
+    return known.get(key);
+  };
+}
+
+// The text of an outcome, by the leaves of all agents.
+const tellOf = (names) => (ways) =>
+  answerOf(names, [ways.map(({ ended, value, logs, failed, isPerhaps }) => ({ end: ended, value, logs, failed, isPerhaps }))], null)
+    .outcomes[0].text;
+
+// Executions of the code in which each access takes effect at once, in an order that `choose` gives. `null` where it came to no end.
+function interleaving({ names, runs, setting }, choose, most = 300) {
+  const memory = new Map();
+  const load = ({ block, first, size }) => {
+    let value = 0;
+    for (let place = size - 1; place >= 0; place -= 1) value = value * 256 + (memory.get(`${block} ${first + place}`)
+      ?? (/^block/.test(block) ? setting.initial(block, first + place) : 0));
+    return value;
+  };
+  const store = ({ block, first, size }, value) => {
+    for (let place = 0; place < size; place += 1) memory.set(`${block} ${first + place}`, Math.floor(value / 256 ** place) % 256);
+  };
+  const agents = runs.map((run) => ({ run, values: [], done: 0, last: run([]) }));
+  const isOver = ({ last, done }) => last.ended !== 'pause' && done === last.events.length;
+  for (let steps = 0; steps < most; steps += 1) {
+    const open = agents.filter((agent) => !isOver(agent));
+    if (open.length === 0) return tellOf(names)(agents.map(({ last }) => last));
+    const agent = open[choose(open.length)];
+    const event = agent.last.events[agent.done];
+    agent.done += 1;
+    if (!isRead(event.op)) store(event, event.value);
+    else {
+      const got = event.op === 'choice' ? choose(event.count) : load(event);
+      const written = event.op === 'exchange' || (event.op === 'cas' && got === event.expected) ? event.value : event.op === 'modify'
+        ? event.next(got) : null;
+      if (written !== null) store(event, written);
+      agent.values.push(got);
+      agent.last = agent.run(agent.values);
+      if (agent.last.ended === 'stutter') return null;
+    }
+  }
+  return null;
+}
+
+// All interleavings' outcomes, of agents whose ways come to an end.
+function everyInterleaving(agents, most) {
+  const found = new Set();
+  const waiting = [[]];
+  for (let runs = 0; waiting.length; runs += 1) {
+    if (runs > most) return null;
+    const path = waiting.pop();
+    let place = 0;
+    const text = interleaving(agents, (count) => {
+      if (place === path.length) {
+        for (let other = 1; other < count; other += 1) waiting.push([...path, other]);
+        path.push(0);
+      }
+      return path[place++];
+    });
+    if (text !== null) found.add(text);
+  }
+  return found;
+}
+
+// Numbers that a seed gives.
+function randomOf(seed) {
+  let state = seed * 2654435761 % 4294967296;
+  return (below) => {
+    state = (Math.imul(state ^ (state >>> 15), 0x2c1b3c6d) + 0x9e3779b9) >>> 0;
+    state = (state ^ (state >>> 13)) >>> 0;
+    return state % below;
+  };
+}
+
+module.exports = { agentsOf, answered, ask, everyInterleaving, interleaving, keyOf, randomOf, tellOf, textsOf };
