@@ -36,7 +36,7 @@ Exit status:
   70  a program that is needed isn't there or can't be run
 
 Example:
-  jslit-js shared/javascript/js/samples/spinlock.js
+  jslit-js shared/javascript/js/samples/dekker.js
 `;
 const CHILD = path.join(__dirname, 'child.js');
 const TOP = path.resolve(__dirname, '..', '..', '..');

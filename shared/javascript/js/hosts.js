@@ -65,6 +65,7 @@ function workerOf(run) {
     listen(what, act, isRaw) {
       if (what === 'error' || what === 'messageerror' || what === 'online') return this;
       if (what !== 'message' && what !== 'exit') run.refuse(`the event ${what} of a worker isn't followed: listen to message or exit`);
+      if (run.events.length) run.refuse('a worker that is listened to after the first access of main isn\'t followed: listen before');
       if (typeof act === 'function') this.started.handlers.push({ what, act, isRaw });
       return this;
     }

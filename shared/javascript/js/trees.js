@@ -8,7 +8,7 @@ const { Refusal } = require('./refusal.js');
 const { REGISTERS } = require('./limits.js');
 const { Room, Run, isRead, keyOf, writtenBy } = require('./run.js');
 
-const MOST_RUNS = 3000;
+const MOST_RUNS = 1200;
 
 // The files of a program, instrumented, and what is known of all its runs.
 class Program {

@@ -69,6 +69,9 @@ const REFUSED = [
   ['main after the agents', `${agents('b[0] = 1;')}\nb[0] = 2;`, 3, 'main accesses shared memory after it started the agents'],
   ['a worker from a text', 'const { Worker } = require("worker_threads");\nnew Worker("1", { eval: true });', 2,
     'a worker from a text isn\'t followed'],
+  ['listening late', 'const { Worker, isMainThread } = require("worker_threads");\nif (isMainThread) { const sab = new SharedArrayBuffer(1); '
+    + 'const w = new Worker(__filename, { workerData: sab });\nnew Uint8Array(sab)[0] = 1;\nw.on("message", () => {}); }',
+  4, 'after the first access of main isn\'t followed: listen before'],
   ['a message that is a function', 'const { Worker } = require("worker_threads");\nnew Worker(__filename, { workerData: () => 1 });', 2,
     'a function isn\'t followed from one agent to another'],
   ['main that throws', `${HEAD}throw new Error('no');`, 2, 'this throws before any agent is started'],
