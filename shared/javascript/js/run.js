@@ -321,6 +321,7 @@ class Run {
   }
 
   shown(value) {
+    if (typeof value === 'string') return JSON.stringify(value);
     const isPlain = value === null || (typeof value !== 'object' && typeof value !== 'function');
     return isPlain ? util.inspect(value) : shown(this.plain(value, 'where it is printed: print its elements, as plain data'));
   }
