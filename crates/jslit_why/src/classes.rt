@@ -110,11 +110,11 @@ fn put_attempts(
         )?,
         count => writeln!(buffer, "{verdict}: {count} attempts")?,
     }
-    let tally = Tally::count_all(plan, statements, &attempts, most);
+    let tally = Tally::count_all(alloc, plan, statements, &attempts, most)?;
     put_tally(alloc, buffer, plan, statements, &tally)
 }
 
-/// Puts each clause that refuses an attempt, how many it refuses, and the first of them with the reason (decision 78).
+/// Puts each clause that refuses an attempt, how many it refuses, and the first of them with the reason in its first case (decision 142).
 fn put_tally(
     alloc: Global,
     buffer: &mut Vec<u8>,
@@ -123,7 +123,7 @@ fn put_tally(
     tally: &Tally,
 ) -> io::Result<()> {
     for (place, counted) in tally.counts().iter().enumerate() {
-        let Some(choice) = counted.first else {
+        let Some(told) = counted.first else {
             continue;
         };
         let clause = clause_at(place);
@@ -132,8 +132,9 @@ fn put_tally(
             "{} {} ({})",
             clause.name, counted.count, clause.section
         )?;
-        if choice < plan.total() {
-            let scene = Scene::new(&*plan, statements, choice);
+        if told.attempt.choice < plan.total() {
+            told.put_cases(buffer)?;
+            let scene = told.scene(&*plan, statements);
             scene.put_sources(buffer)?;
             put_reason(alloc, buffer, &scene)?;
         }

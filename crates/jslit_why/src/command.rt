@@ -19,6 +19,8 @@ pub(crate) struct CommandLine<'a> {
     pub choice: Option<u64>,
     /// The sources, and final values of registers, of the choice that the words ask for, in place of a class.
     pub from: Option<&'a str>,
+    /// A condition in place of the text's.
+    pub condition: Option<&'a str>,
     /// How many attempts are looked at, at the most.
     pub most: usize,
     /// Whether the answer is JSON.
@@ -82,6 +84,15 @@ fn from_flag<'a>(alloc: Global) -> Arg<'a> {
         .help("Ask for the choice with these sources, as in 'A.1=init[0] B.0=A.0,A.0 A.r0=0'")
 }
 
+/// The flag for another condition.
+fn condition_flag<'a>(alloc: Global) -> Arg<'a> {
+    Arg::new(alloc, "condition")
+        .long("condition")
+        .value_name("COND")
+        .action(ArgAction::Set)
+        .help("Ask about this condition in place of the text's, as in 'A.r0 == 0 && B.r0 == 0'")
+}
+
 /// The message where the words ask for several things.
 fn exclusion(matches: &ArgMatches<'_>) -> Option<&'static str> {
     let unmet = matches.get_str("unmet") == Some("true");
@@ -123,7 +134,8 @@ fn command<'a>(alloc: Global) -> Result<Command<'a>, AllocError> {
     let with_most = with_race.arg(most_flag(alloc))?;
     let with_choice = with_most.arg(choice_flag(alloc))?;
     let with_from = with_choice.arg(from_flag(alloc))?;
-    let with_json = with_from.arg(flag(alloc, "json", "Answer with a line of JSON"))?;
+    let with_condition = with_from.arg(condition_flag(alloc))?;
+    let with_json = with_condition.arg(flag(alloc, "json", "Answer with a line of JSON"))?;
     let whole = with_json.arg(
         Arg::new(alloc, "file")
             .value_name("FILE")
@@ -154,6 +166,7 @@ pub(crate) fn line_of<'a, S: AsStr>(
         race: matches.get_str("race") == Some("true"),
         choice: matches.get_one("choice"),
         from,
+        condition: matches.get_str("condition"),
         most: matches.get_one("most").unwrap_or(MOST),
         json: matches.get_str("json") == Some("true"),
         file: matches.get_str("file"),

@@ -146,7 +146,7 @@ fn has_attempt(alloc: Global, text: &[u8]) -> io::Result<bool> {
 }
 
 /// The canonical text of a test up to its condition.
-fn text_before_condition(alloc: Global, test: &Test) -> io::Result<Vec<u8>> {
+pub(crate) fn text_before_condition(alloc: Global, test: &Test) -> io::Result<Vec<u8>> {
     let Ok(mut text) = show(alloc, test) else {
         return Err(io::Error::from(io::ErrorKind::OutOfMemory));
     };

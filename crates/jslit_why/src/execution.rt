@@ -4,7 +4,7 @@ use crate::clauses::clause_of;
 use crate::scene::Scene;
 use lit_paths::{Event, Kind, Order3};
 use lit_rel::Rows;
-use lit_why::{DerivationLine, Reason, Refusal, StepKind, chain, derivation, is_data_race};
+use lit_why::{DerivationLine, Reason, Refusal, StepKind, is_data_race};
 use std::alloc::Global;
 use std::io;
 use std::io::Write;
@@ -98,7 +98,9 @@ fn put_event(buffer: &mut Vec<u8>, scene: &Scene<'_>, number: u8, event: &Event)
     )?;
     write!(buffer, ",\"first\":{},\"size\":{}", event.first, event.size)?;
     if event.kind.does_read() {
-        write!(buffer, ",\"reads\":{}", scene.part.value(number))?;
+        if let Some(value) = scene.value(number) {
+            write!(buffer, ",\"reads\":{value}")?;
+        }
     }
     if event.kind.does_write() {
         write!(buffer, ",\"writes\":{}", u32::from_le_bytes(event.payload))?;
@@ -117,22 +119,19 @@ fn put_events(buffer: &mut Vec<u8>, scene: &Scene<'_>) -> io::Result<()> {
     buffer.write_all(b"]")
 }
 
-/// Puts the source of each byte that is read.
+/// Puts the source of each byte that is read, of a case of each that is given.
 fn put_sources(buffer: &mut Vec<u8>, scene: &Scene<'_>) -> io::Result<()> {
     let mut first = true;
     buffer.write_all(b",\"from\":[")?;
-    for (byte, source) in scene
-        .part
-        .combination()
-        .byte_reads()
-        .iter()
-        .zip(scene.sources.iter())
-    {
+    for (place, byte) in scene.part.combination().byte_reads().iter().enumerate() {
+        let Some(source) = scene.source_at(place) else {
+            continue;
+        };
         put_comma(buffer, &mut first)?;
         buffer.write_all(b"{\"read\":")?;
         put_name(buffer, scene, byte.read)?;
         write!(buffer, ",\"byte\":{},\"source\":", byte.byte)?;
-        put_name(buffer, scene, *source)?;
+        put_name(buffer, scene, source)?;
         buffer.write_all(b"}")?;
     }
     buffer.write_all(b"]")
@@ -140,7 +139,7 @@ fn put_sources(buffer: &mut Vec<u8>, scene: &Scene<'_>) -> io::Result<()> {
 
 /// Puts what may not stand between each source and its read.
 fn put_forbidden(buffer: &mut Vec<u8>, scene: &Scene<'_>) -> io::Result<()> {
-    let between = scene.part.between();
+    let between = &scene.between;
     let mut first = true;
     buffer.write_all(b",\"forbidden\":[")?;
     for pair in between.pairs() {
@@ -160,14 +159,14 @@ fn put_forbidden(buffer: &mut Vec<u8>, scene: &Scene<'_>) -> io::Result<()> {
     buffer.write_all(b"]")
 }
 
-/// Puts the pairs of events that are in a data race, the lesser number first.
+/// Puts the pairs of events that are in a data race, the lesser number first; of a case none.
 fn put_races(buffer: &mut Vec<u8>, scene: &Scene<'_>) -> io::Result<()> {
     let count = scene.part.combination().events().len();
     let mut first = true;
     buffer.write_all(b",\"races\":[")?;
     for a in 0..count {
         for d in a..count {
-            if is_data_race(&scene.part, a as u8, d as u8) {
+            if !scene.is_case() && is_data_race(&scene.part, a as u8, d as u8) {
                 put_comma(buffer, &mut first)?;
                 put_pair(buffer, scene, a as u8, d as u8)?;
             }
@@ -180,7 +179,7 @@ fn put_races(buffer: &mut Vec<u8>, scene: &Scene<'_>) -> io::Result<()> {
 fn put_chain(buffer: &mut Vec<u8>, scene: &Scene<'_>, from: u8, to: u8) -> io::Result<()> {
     let mut first = true;
     buffer.write_all(b"[")?;
-    if let Some(chain) = chain(&scene.part, from, to) {
+    if let Some(chain) = scene.chain(from, to) {
         let mut from = from;
         for link in chain.links.as_slice() {
             put_comma(buffer, &mut first)?;
@@ -251,7 +250,7 @@ fn put_line(buffer: &mut Vec<u8>, scene: &Scene<'_>, line: &DerivationLine) -> i
 /// Puts a derivation, or null where there is none.
 fn put_derivation(alloc: Global, buffer: &mut Vec<u8>, scene: &Scene<'_>) -> io::Result<()> {
     buffer.write_all(b",\"derivation\":")?;
-    let Some(lines) = derivation(alloc, &scene.part)? else {
+    let Some(lines) = scene.derivation(alloc)? else {
         return buffer.write_all(b"null");
     };
     let mut first = true;
@@ -334,9 +333,9 @@ pub(crate) fn put_execution(
     put_events(buffer, scene)?;
     put_sources(buffer, scene)?;
     buffer.write_all(b",\"synchronizes_with\":")?;
-    put_rows(buffer, scene, &scene.part.synchronizes())?;
+    put_rows(buffer, scene, &scene.synchronizes)?;
     buffer.write_all(b",\"happens_before\":")?;
-    put_rows(buffer, scene, &scene.part.happens_before())?;
+    put_rows(buffer, scene, &scene.before)?;
     put_forbidden(buffer, scene)?;
     put_order(buffer, scene, order)?;
     put_refusal(alloc, buffer, scene)?;

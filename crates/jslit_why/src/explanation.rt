@@ -6,6 +6,7 @@ ghost use Rattle.lit_print.specs.Counted.{failures_of};
 use crate::choices::explain_choice;
 use crate::classes::explain_class;
 use crate::command::{CommandLine, line_of};
+use crate::cores::text_before_condition;
 use crate::json::{put_class, put_named_choice, put_no_choice, put_race};
 use crate::races::explain_race;
 use crate::selection::select;
@@ -14,9 +15,9 @@ use clap::Error;
 use clap::error::ErrorKind;
 use jslit::{Counted, Options, RunFault, check};
 use lit_paths::{Plan, plan};
-use lit_read::read;
+use lit_read::{ReadKind, read};
 use lit_search::Class;
-use lit_syntax::TEXT_LIMIT;
+use lit_syntax::{TEXT_LIMIT, Test};
 use std::alloc::Global;
 use std::convert::AsStr;
 use std::io::{Read, Write};
@@ -82,6 +83,10 @@ fn answer_text<T: Threads + Sync, W: Write, E: Write>(
     };
     let mut buffer = Vec::new(alloc);
     match explain(alloc, &text, line, &mut buffer) {
+        Ok(2) => {
+            let _ = errors.write_all(CONDITION_REFUSED.as_bytes());
+            2
+        }
         Ok(status) => match write_buffer(output, errors, &buffer) {
             0 => status,
             failed => failed,
@@ -90,6 +95,10 @@ fn answer_text<T: Threads + Sync, W: Write, E: Write>(
         Err(fault) => say(errors, fault),
     }
 }
+
+/// What is said where the condition of the words is none of the test.
+const CONDITION_REFUSED: &str =
+    "error: invalid value for '--condition <COND>': it is no condition of this test\n";
 
 /// A question on a test.
 #[derive(Clone, Copy, Debug)]
@@ -191,7 +200,15 @@ fn put_answer(
     })
 }
 
-/// Puts the answer on a text into a buffer. Gives the status.
+/// The text of a test with another condition.
+fn text_with(alloc: Global, test: &Test, condition: &str) -> io::Result<Vec<u8>> {
+    let mut text = text_before_condition(alloc, test)?;
+    text.write_all(condition.as_bytes())?;
+    text.write_all(b"\n")?;
+    Ok(text)
+}
+
+/// Puts the answer on a text into a buffer. Gives the status, which is 2 where the condition of the words is none of the test.
 fn explain(
     alloc: Global,
     text: &[u8],
@@ -199,10 +216,32 @@ fn explain(
     buffer: &mut Vec<u8>,
 ) -> Result<u8, RunFault> {
     let test = read(alloc, text)?;
-    let plan = plan(alloc, &test)?;
     let statements = Statements::of(alloc, text)?;
+    let Some(condition) = line.condition else {
+        return explain_test(alloc, &test, &statements, line, buffer);
+    };
+    // Writing into the text fails only where memory for its growth is refused.
+    let Ok(other) = text_with(alloc, &test, condition) else {
+        return Err(RunFault::OutOfMemory);
+    };
+    match read(alloc, &other) {
+        Ok(test) => explain_test(alloc, &test, &statements, line, buffer),
+        Err(fault) if fault.kind == ReadKind::OutOfMemory => Err(RunFault::OutOfMemory),
+        Err(_) => Ok(2),
+    }
+}
+
+/// Puts the answer on a test into a buffer. Gives the status.
+fn explain_test(
+    alloc: Global,
+    test: &Test,
+    statements: &Statements,
+    line: &CommandLine<'_>,
+    buffer: &mut Vec<u8>,
+) -> Result<u8, RunFault> {
+    let plan = plan(alloc, test)?;
     // Writing into the buffer fails only where memory for its growth is refused.
-    match put_answer(alloc, buffer, &plan, &statements, line) {
+    match put_answer(alloc, buffer, &plan, statements, line) {
         Ok(status) => Ok(status),
         Err(_) => Err(RunFault::OutOfMemory),
     }

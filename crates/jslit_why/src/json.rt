@@ -76,9 +76,10 @@ fn put_clauses(
     buffer.write_all(b",\"clauses\":[")?;
     let mut first = true;
     for (place, counted) in tally.counts().iter().enumerate() {
-        let Some(choice) = counted.first else {
+        let Some(told) = counted.first else {
             continue;
         };
+        let choice = told.attempt.choice;
         if choice < plan.total() {
             if !first {
                 buffer.write_all(b",")?;
@@ -90,7 +91,13 @@ fn put_clauses(
                 "{{\"clause\":\"{}\",\"section\":\"{}\",\"attempts\":{}",
                 clause.name, clause.section, counted.count
             )?;
-            put_choice(alloc, buffer, plan, statements, choice)?;
+            write!(
+                buffer,
+                ",\"choices\":{},\"cases\":{},\"whole\":{},\"choice\":{choice},\"execution\":",
+                told.attempt.choices, told.cases, told.whole
+            )?;
+            let scene = told.scene(&*plan, statements);
+            put_execution(alloc, buffer, &scene, None)?;
             buffer.write_all(b"}")?;
         }
     }
@@ -107,7 +114,7 @@ fn put_attempts(
     most: usize,
 ) -> io::Result<()> {
     let attempts = attempts(alloc, plan, class, most.saturating_add(1))?;
-    let tally = Tally::count_all(plan, statements, &attempts, most);
+    let tally = Tally::count_all(alloc, plan, statements, &attempts, most)?;
     let (verdict, count, whole) = (
         verdict_without(class),
         attempts.len().min(most),

@@ -2,7 +2,7 @@
 
 use crate::cycles::put_cycle;
 use crate::scene::Scene;
-use lit_why::{Refusal, StepKind, chain, derivation};
+use lit_why::{Refusal, StepKind};
 use std::alloc::Global;
 use std::io;
 use std::io::Write;
@@ -23,7 +23,7 @@ pub(crate) fn put_chain(
     from: u8,
     to: u8,
 ) -> io::Result<()> {
-    let Some(chain) = chain(&scene.part, from, to) else {
+    let Some(chain) = scene.chain(from, to) else {
         return Ok(());
     };
     let mut from = from;
@@ -92,7 +92,7 @@ fn put_torn(
 
 /// Puts why there is no memory-order.
 fn put_no_order(alloc: Global, buffer: &mut Vec<u8>, scene: &Scene<'_>) -> io::Result<()> {
-    match derivation(alloc, &scene.part)? {
+    match scene.derivation(alloc)? {
         Some(lines) => put_cycle(alloc, buffer, scene, &lines),
         None => buffer.write_all(
             b"  each order of the events breaks a rule; no pair of events alone shows it\n",

@@ -1,16 +1,14 @@
 -- The first choices of attempts are those that try the class by representatives, on each combination in turn.
-use Rattle.std.proofs.Common.{◌≡◌, ◌≢◌, ◌↔◌, ◌⊎◌, inl, inr, ℕ, zero, suc, ◌+◌, ◌<◌, ◌≤◌, ◌==◌, ◌&&◌, Bool, true, false, List, [], ◌∷◌}
+use Rattle.std.proofs.Common.{◌≡◌, ◌≢◌, ◌↔◌, ◌⊎◌, inl, inr, ℕ, zero, suc, ◌+◌, ◌<◌, ◌≤◌, ◌&&◌, Bool, true, false, List, [], ◌∷◌}
 use Rattle.std.proofs.Common.{Some, arith, eq-eqb, get_or, length, length-set, map, refl, set, sym, ap, subst, ◌∙◌}
 use Rattle.std.specs.Prelude.{IsTrue, slice_get}
 use Rattle.std.proofs.lemmas.Bool.{cases_eq, cases_lt}
-use Rattle.std.proofs.lemmas.Bool.Decides.{nat_tests}
 use Rattle.std.proofs.lemmas.List.{get_or-set_other, get_or-set_same}
 use Rattle.std.proofs.lemmas.Option.{get_or_from_slice_get, same_Some, slice_get_within, slice_get-get_or}
 use Rattle.lit_syntax.specs.Syntax.{Litmus}
 use Rattle.lit_paths.specs.declared.event.Event.{Event}
 use Rattle.lit_paths.specs.ByteReads.{IsCandidate, byte_reads}
 use Rattle.lit_paths.specs.Choice.{AreSources, Choice, choices_of, combinations_of}
-use Rattle.lit_paths.specs.Event.{event_at, payload_at}
 use Rattle.lit_paths.specs.Plan.{AreEventsIn, choices_before, combination_at, events_in}
 use Rattle.lit_paths.proofs.PlanFacts.{before_mono}
 use Rattle.lit_paths.proofs.Totals.{before_all}
@@ -23,8 +21,9 @@ use Rattle.lit_solve.specs.Box.{Box, LiesIn, box_with, events_on}
 use Rattle.lit_solve.proofs.LexLemmas.{place_of_less}
 use Rattle.lit_solve.proofs.RangeLemmas.{sources_rise}
 use Rattle.lit_why.specs.declared.attempt.Attempt.{Attempt}
-use Rattle.lit_why.specs.Attempts.{AreBefore, AreFirstAttempts, AreOneAttempt, AreRising, HasAttempt, IsLeastTry, IsOn, IsTry, give_same_values}
-use Rattle.lit_why.specs.Attempts.{part_with, store_same}
+use Rattle.lit_why.specs.Attempts.{AreBefore, AreFirstAttempts, AreOneAttempt, AreRising, HasAttempt, IsLeastTry, IsOn, IsTry, agree, all_agree}
+use Rattle.lit_why.specs.Attempts.{give_same_values, part_with}
+use Rattle.lit_why.specs.Asked.{is_asked}
 use Rattle.lit_why.specs.Internal.Added.{Adds}
 use Rattle.lit_why.specs.Internal.Domains.{AreDomainsBy}
 use Rattle.lit_why.specs.Internal.Trials.{IsLeastTryOn, IsRepresentative, IsStoredBefore, TriesIn}
@@ -32,48 +31,51 @@ use Rattle.lit_why.proofs.AddedLemmas.{adds_more}
 use Rattle.lit_why.proofs.NodeLemmas.{on_sourced, placed, rises_at}
 use Rattle.lit_why.proofs.FirstRaceLemmas.{one_sources}
 
--- ---- sources that store the same bytes
+-- ---- sources that make no difference
 pub both : (a b : Bool) → IsTrue (a && b) → IsTrue a × IsTrue b
 both true true is = (refl, refl)
 both true false is = absurd (let e = is in cc)
 both false b is = absurd (let e = is in cc)
 
 -- at each place
-stored_same_at : (events : List Event) (reads : List (ℕ × ℕ)) (some other : List ℕ) → IsTrue (store_same events reads some other)
+pub agree_at : (asked : ℕ → Bool) (events : List Event) (reads : List (ℕ × ℕ)) (some other : List ℕ)
+    → IsTrue (all_agree asked events reads some other)
     → (k v w : ℕ) (read : ℕ × ℕ) → slice_get reads k ≡ Some read → slice_get some k ≡ Some v → slice_get other k ≡ Some w
-    → payload_at (event_at events w) read.1 ≡ payload_at (event_at events v) read.1
-stored_same_at events [] some other is k v w read at at_some at_other = absurd (let e = at in cc)
-stored_same_at events (r ∷ reads) [] other is k v w read at at_some at_other = absurd (let e = at_some in cc)
-stored_same_at events (r ∷ reads) (x ∷ some) [] is k v w read at at_some at_other = absurd (let e = at_other in cc)
-stored_same_at events (r ∷ reads) (x ∷ some) (y ∷ other) is zero v w read at at_some at_other =
-    let here : (payload_at (event_at events y) r.1 == payload_at (event_at events x) r.1) ≡ true =
-    (both (payload_at (event_at events y) r.1 == payload_at (event_at events x) r.1) (store_same events reads some other) is).0 in
-    let stored : payload_at (event_at events y) r.1 ≡ payload_at (event_at events x) r.1 = grind (arith, nat_tests) in
+    → IsTrue (agree (asked read.0) events read.1 v w)
+agree_at asked events [] some other is k v w read at at_some at_other = absurd (let e = at in cc)
+agree_at asked events (r ∷ reads) [] other is k v w read at at_some at_other = absurd (let e = at_some in cc)
+agree_at asked events (r ∷ reads) (x ∷ some) [] is k v w read at at_some at_other = absurd (let e = at_other in cc)
+agree_at asked events (r ∷ reads) (x ∷ some) (y ∷ other) is zero v w read at at_some at_other =
+    let here : IsTrue (agree (asked r.0) events r.1 x y) =
+    (both (agree (asked r.0) events r.1 x y) (all_agree asked events reads some other) is).0 in
     let same_read : r ≡ read = same_Some r read at in
     let same_v : x ≡ v = same_Some x v at_some in
     let same_w : y ≡ w = same_Some y w at_other in
-    subst (λ (q : ℕ × ℕ). payload_at (event_at events w) q.1 ≡ payload_at (event_at events v) q.1) same_read
-    (subst (λ (n : ℕ). payload_at (event_at events n) r.1 ≡ payload_at (event_at events v) r.1) same_w
-    (subst (λ (n : ℕ). payload_at (event_at events y) r.1 ≡ payload_at (event_at events n) r.1) same_v stored))
-stored_same_at events (r ∷ reads) (x ∷ some) (y ∷ other) is (suc k) v w read at at_some at_other =
-    stored_same_at events reads some other
-    (both (payload_at (event_at events y) r.1 == payload_at (event_at events x) r.1) (store_same events reads some other) is).1 k v w
-    read at at_some
-    at_other
+    subst (λ (q : ℕ × ℕ). IsTrue (agree (asked q.0) events q.1 v w)) same_read
+    (subst (λ (n : ℕ). IsTrue (agree (asked r.0) events r.1 v n)) same_w
+    (subst (λ (n : ℕ). IsTrue (agree (asked r.0) events r.1 n y)) same_v here))
+agree_at asked events (r ∷ reads) (x ∷ some) (y ∷ other) is (suc k) v w read at at_some at_other =
+    agree_at asked events reads some other
+    (both (agree (asked r.0) events r.1 x y) (all_agree asked events reads some other) is).1 k v w read at at_some at_other
 
-store_same_from : (events : List Event) (reads : List (ℕ × ℕ)) (some other : List ℕ) → length some ≡ length reads → length other ≡ length reads
+agree_from : (asked : ℕ → Bool) (events : List Event) (reads : List (ℕ × ℕ)) (some other : List ℕ) → length some ≡ length reads
+    → length other ≡ length reads
     → ((k v w : ℕ) (read : ℕ × ℕ) → slice_get reads k ≡ Some read → slice_get some k ≡ Some v → slice_get other k ≡ Some w
-    → payload_at (event_at events w) read.1 ≡ payload_at (event_at events v) read.1) → IsTrue (store_same events reads some other)
-store_same_from events [] some other long long_other each = refl
-store_same_from events (r ∷ reads) [] other long long_other each = absurd (omega (arith, long))
-store_same_from events (r ∷ reads) (x ∷ some) [] long long_other each = absurd (omega (arith, long_other))
-store_same_from events (r ∷ reads) (x ∷ some) (y ∷ other) long long_other each =
-    let later : store_same events reads some other ≡ true =
-    store_same_from events reads some other (omega (arith, long)) (omega (arith, long_other))
+    → IsTrue (agree (asked read.0) events read.1 v w)) → IsTrue (all_agree asked events reads some other)
+agree_from asked events [] some other long long_other each = refl
+agree_from asked events (r ∷ reads) [] other long long_other each = absurd (omega (arith, long))
+agree_from asked events (r ∷ reads) (x ∷ some) [] long long_other each = absurd (omega (arith, long_other))
+agree_from asked events (r ∷ reads) (x ∷ some) (y ∷ other) long long_other each =
+    let later : all_agree asked events reads some other ≡ true =
+    agree_from asked events reads some other (omega (arith, long)) (omega (arith, long_other))
     (λ k v w read at at_some at_other. each (suc k) v w read at at_some at_other) in
-    let here : (payload_at (event_at events y) r.1 == payload_at (event_at events x) r.1)
-    ≡ true = eq-eqb _ _ (each 0 x y r refl refl refl) in
-    ap (λ (b : Bool). b && store_same events reads some other) here ∙ later
+    let here : agree (asked r.0) events r.1 x y ≡ true = each 0 x y r refl refl refl in
+    ap (λ (b : Bool). b && all_agree asked events reads some other) here ∙ later
+
+-- a source makes no difference to itself
+pub agree_itself : (asked : Bool) (events : List Event) (byte w : ℕ) → IsTrue (agree asked events byte w w)
+agree_itself false events byte w = refl
+agree_itself true events byte w = eq-eqb _ _ refl
 
 -- ---- choices on a combination
 -- a choice is on one combination
@@ -138,10 +140,10 @@ module _ (laws : Laws) (refused : RefusedBytesMakeFalse) (p : Litmus × ℕ) (cl
       on_n : IsOn t n c one.other
       on_n = subst (λ (d : ℕ). IsOn t n d one.other) same one.on_other
 
-      same_values : IsTrue (give_same_values events one.some one.other)
-      same_values = subst (λ (d : ℕ). IsTrue (give_same_values (events_in t d) one.some one.other)) same one.same_values
+      same_values : IsTrue (give_same_values t c one.some one.other)
+      same_values = subst (λ (d : ℕ). IsTrue (give_same_values t d one.some one.other)) same one.same_values
 
-      never : IsOn t m c one.some → IsOn t n c one.other → IsTrue (give_same_values events one.some one.other) → ⊥
+      never : IsOn t m c one.some → IsOn t n c one.other → IsTrue (give_same_values t c one.some one.other) → ⊥
       never on_m on_n same_values =
           let a = one.some in
           let b = is.sources in
@@ -162,9 +164,9 @@ module _ (laws : Laws) (refused : RefusedBytesMakeFalse) (p : Litmus × ℕ) (cl
             other = get_or a k 0;
             candidate = are_a.each k read.0 read.1 (get_or a k 0) at_read at_a;
             lesser = place.2.greater place.1;
-            same = sym (stored_same_at events (byte_reads events) a b
-                (subst (λ (ws : List ℕ). IsTrue (give_same_values events a ws)) others same_values) k (get_or a k 0) (get_or b k 0) read
-                at_read at_a at_b);
+            same = agree_at (is_asked t c) events (byte_reads events) a b
+                (subst (λ (ws : List ℕ). IsTrue (give_same_values t c a ws)) others same_values) k (get_or a k 0) (get_or b k 0) read
+                at_read at_a at_b;
           })
 
   -- the sources of the first choice of an attempt are representatives
@@ -209,19 +211,20 @@ module _ (laws : Laws) (refused : RefusedBytesMakeFalse) (p : Litmus × ℕ) (cl
           other = sources;
           on_some = lesser.1;
           on_other = on;
-          same_values = store_same_from events (byte_reads events) others sources are_others.one_each are.one_each
+          same_values = agree_from (is_asked t c) events (byte_reads events) others sources are_others.one_each are.one_each
               (λ i x y read at_i at_x at_y. elim (cases_eq i k) [
                 | inl same ↦
                     let pair : (r, b) ≡ read = same_Some (r, b) read (sym at_read ∙ ap (slice_get (byte_reads events)) (sym same) ∙ at_i) in
                     let value : v ≡ x = sym here ∙ ap (λ (j : ℕ). get_or others j 0) (sym same) ∙ get_or_from_slice_get others i x 0 at_x in
                     let value_too : w ≡ y = same_Some w y (sym at ∙ ap (slice_get sources) (sym same) ∙ at_y) in
-                    subst (λ (q : ℕ × ℕ). payload_at (event_at events y) q.1 ≡ payload_at (event_at events x) q.1) pair
-                    (subst (λ (u : ℕ). payload_at (event_at events u) b ≡ payload_at (event_at events x) b) value_too
-                    (subst (λ (u : ℕ). payload_at (event_at events w) b ≡ payload_at (event_at events u) b) value (sym before.same)))
+                    subst (λ (q : ℕ × ℕ). IsTrue (agree (is_asked t c q.0) events q.1 x y)) pair
+                    (subst (λ (u : ℕ). IsTrue (agree (is_asked t c r) events b x u)) value_too
+                    (subst (λ (u : ℕ). IsTrue (agree (is_asked t c r) events b u w)) value before.same))
                 | inr other ↦
                     let value : x ≡ y = sym (get_or_from_slice_get others i x 0 at_x) ∙ apart i other
                     ∙ get_or_from_slice_get sources i y 0 at_y in
-                    ap (λ (u : ℕ). payload_at (event_at events u) read.1) (sym value)
+                    subst (λ (u : ℕ). IsTrue (agree (is_asked t c read.0) events read.1 x u)) value
+                    (agree_itself (is_asked t c read.0) events read.1 x)
               ]);
         })
 

@@ -1,5 +1,5 @@
 -- Lines of a derivation, one more at the end, by wider relations, and what all of them show.
-use Rattle.std.proofs.Common.{◌≡◌, ◌≢◌, ◌⊎◌, ◌↔◌, ℕ, ◌+◌, ◌*◌, ◌<◌, suc, zero, Bool, true, false, cond, List, [], ◌∷◌, ◌++◌, length, Some, refl, sym, ◌∙◌, arith, inl, inr}
+use Rattle.std.proofs.Common.{ap, ◌≡◌, ◌≢◌, ◌⊎◌, ◌↔◌, ℕ, ◌+◌, ◌*◌, ◌<◌, suc, zero, Bool, true, false, cond, List, [], ◌∷◌, ◌++◌, length, Some, refl, sym, ◌∙◌, arith, inl, inr}
 use Rattle.std.proofs.lemmas.Bool.{cases_lt}
 use Rattle.std.proofs.lemmas.List.{length-append}
 use Rattle.std.proofs.lemmas.Option.{same_Some, slice_get_within}
@@ -9,7 +9,7 @@ use Rattle.lit_paths.proofs.Products.{slice_get_left, slice_get_right}
 use Rattle.lit_why.specs.declared.derivations.lines.DerivationLine.{DerivationLine}
 use Rattle.lit_why.specs.declared.derivations.lines.Reason.{Reason}
 use Rattle.lit_why.specs.declared.derivations.lines.Reason.TheVariants as reasons
-use Rattle.lit_why.specs.Derivation.{EachFollows, EndsInCycle, Follows, IsDerivationBy, IsLineOf}
+use Rattle.lit_why.specs.Derivation.{AreOnce, EachFollows, EndsInCycle, Follows, IsDerivationBy, IsLineOf}
 use Rattle.lit_why.specs.Internal.Deriving.{AreGiven, HasForced, HasJoined, HasLine, HasLines, IsGiven}
 
 -- what is at a place after one is put at the end
@@ -81,6 +81,38 @@ EachFollows-given before forbidden lines given k line at = let is = given k line
 pub AreGiven-more : (before : ℕ → ℕ → Type 0) (lines : List DerivationLine) (line : DerivationLine) → AreGiven before lines → IsGiven before line → AreGiven before (lines ++ line ∷ [])
 AreGiven-more before lines line given here k new at = elim (at_pushed lines line k new at) [ inl old ↦ given k new old.1 | inr last ↦ rw (← last.1) here ]
 
+-- no pair twice
+pub once_more : (lines : List DerivationLine) (line : DerivationLine) → AreOnce lines → ¬ HasLine lines line.before line.after
+    → AreOnce (lines ++ line ∷ [])
+once_more lines line once new j k a b less at_a at_b same same_too = elim (at_pushed lines line k b at_b) [
+  | inl old_k ↦ elim (at_pushed lines line j a at_a) [
+    | inl old_j ↦ once j k a b less old_j.1 old_k.1 same same_too
+    | inr last_j ↦ omega (arith, less, old_k.0, last_j.0)
+  ]
+  | inr last_k ↦ elim (at_pushed lines line j a at_a) [
+    | inl old_j ↦ new (
+      j,
+      record {
+        line = a;
+        at_place = old_j.1;
+        first = same ∙ sym (ap (λ (l : DerivationLine). l.before) last_k.1);
+        second = same_too ∙ sym (ap (λ (l : DerivationLine). l.after) last_k.1);
+      },
+    )
+    | inr last_j ↦ omega (arith, less, last_j.0, last_k.0)
+  ]
+]
+
+pub only_more : (lines : List DerivationLine) (line : DerivationLine) (e d : ℕ) → HasLine (lines ++ line ∷ []) e d
+    → HasLine lines e d ⊎ ((e ≡ line.before) × (d ≡ line.after))
+only_more lines line e d h = elim (at_pushed lines line h.0 h.1.line h.1.at_place) [
+  | inl old ↦ inl (h.0, record { line = h.1.line; at_place = old.1; first = h.1.first; second = h.1.second })
+  | inr last ↦ inr (
+    sym h.1.first ∙ sym (ap (λ (l : DerivationLine). l.before) last.1),
+    sym h.1.second ∙ sym (ap (λ (l : DerivationLine). l.after) last.1),
+  )
+]
+
 -- where all pairs that follow are known, all pairs that are forced are known
 pub forced_within : (before known : ℕ → ℕ → Type 0) (forbidden : ℕ → ℕ → ℕ → Type 0) → ((e d : ℕ) → before e d → known e d) → HasForced forbidden known known
     → HasJoined known known → (a d : ℕ) → IsForced before forbidden a d → known a d
@@ -115,6 +147,7 @@ module _ (before other : ℕ → ℕ → Type 0) (forbidden more : ℕ → ℕ �
     follows = λ k line at. Follows-wider before other forbidden more (λ e d. (same e d).0) (λ w r v. (same_triples w r v).0) lines k line.before line.after line.reason (h.follows k line at);
     ends = h.ends;
     cited = h.cited;
+    once = h.once;
   }
 
   IsForced-back : (a d : ℕ) → IsForced other more a d → IsForced before forbidden a d

@@ -1,6 +1,9 @@
 pub mod AddedLemmas
 pub mod SameValueLemmas
+pub mod AskedLemmas
 pub mod AttemptLemmas
+pub mod BoxLemmas
+pub mod CaseLemmas
 pub mod CountLemmas
 pub mod DerivationLemmas
 pub mod DomainLemmas
@@ -11,7 +14,9 @@ pub mod UsedLineLemmas
 pub mod RaceLemmas
 pub mod ReachLemmas
 pub mod RefusalLemmas
+pub mod RelationLemmas
 pub mod RepresentativeLemmas
 pub mod StepLemmas
 pub mod TrialLemmas
+pub mod VerdictLemmas
 pub mod WaysLemmas

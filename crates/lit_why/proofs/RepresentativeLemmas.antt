@@ -1,21 +1,22 @@
--- Representatives: the least of the candidates that store the same byte.
-use Rattle.std.proofs.Common.{◌≡◌, ◌↔◌, ℕ, ◌<◌, Bool, true, false, not, refl}
+-- Representatives: the least of the candidates between which there is no difference.
+use Rattle.std.proofs.Common.{◌↔◌, ℕ, ◌<◌, Bool, true, false, not, refl}
 use Rattle.std.specs.Prelude.{IsTrue}
 use Rattle.std.proofs.lemmas.Bool.{false≢true}
 use Rattle.lit_syntax.specs.Syntax.{Litmus}
 use Rattle.lit_paths.specs.ByteReads.{IsCandidate}
-use Rattle.lit_paths.specs.Event.{event_at, payload_at}
 use Rattle.lit_rel.specs.declared.event_set.EventSet.{EventSet}
 use Rattle.lit_rel.specs.EventSet.{HasEvent}
 use Rattle.lit_solve.specs.Box.{events_on}
 use Rattle.lit_solve.specs.Prunable.{IsRefusedOn}
+use Rattle.lit_why.specs.Asked.{is_asked}
+use Rattle.lit_why.specs.Attempts.{agree}
 use Rattle.lit_why.specs.Internal.Trials.{IsRepresentative}
 
--- a candidate that no guard refuses is a representative where no lesser candidate stores the same byte
+-- a candidate that no guard refuses is a representative where no lesser candidate would make no difference
 pub unless_before : (c : Litmus × ℕ) (among : EventSet) (read : ℕ × ℕ) (w : ℕ) (before : Bool)
     → ((v : ℕ) → HasEvent among v ↔ IsCandidate (events_on c) read.0 read.1 v) → HasEvent among w → ¬ IsRefusedOn c read.0 read.1 w
     → (IsTrue before ↔ ((v : ℕ) × HasEvent among v × (v < w)
-    × (payload_at (event_at (events_on c) v) read.1 ≡ payload_at (event_at (events_on c) w) read.1)))
+    × IsTrue (agree (is_asked c.0 c.1 read.0) (events_on c) read.1 v w)))
     → IsTrue (not before) ↔ IsRepresentative c read w
 unless_before c among read w true exact there allowed stored = (
   λ never. absurd (false≢true never),

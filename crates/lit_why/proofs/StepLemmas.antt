@@ -8,7 +8,8 @@ use Rattle.lit_rel.specs.ReadsFrom.{ReadsByteFrom}
 use Rattle.lit_rel.specs.SynchronizesWith.{Synchronizes}
 use Rattle.lit_rel.proofs.ChainLemmas.{Chain-same}
 use Rattle.lit_why.specs.declared.chains.links.Link.{Link}
-use Rattle.lit_why.specs.Chains.{AreLinkedBy, IsShortestChain}
+use Rattle.lit_paths.specs.declared.event.Event.{Event}
+use Rattle.lit_why.specs.Chains.{AreLinkedBy, IsShortestChain, IsShortestChainBy}
 use Rattle.lit_why.specs.Internal.Reaching.{AreLevelsBelow, IsStep, IsUnreached}
 use Rattle.lit_why.proofs.LinkLemmas.{AreLinkedBy-same}
 
@@ -50,3 +51,20 @@ module _ (part : PartModel) (synchronizes rows : ℕ → ℕ → Type 0) (same_s
       | inr other ↦ omega arith
     ];
   }
+
+-- the same by a relation that stands for synchronizes-with
+pub is_shortest_by : (events : List Event) (synchronizes rows : ℕ → ℕ → Type 0) → ((e d : ℕ) → rows e d ↔ IsStep events synchronizes e d)
+    → (e d : ℕ) (levels : List EventSet) (links : List Link) → AreLevelsBelow rows e d levels → AreLinkedBy events synchronizes e links d
+    → length links ≡ length levels + 1 → IsShortestChainBy events synchronizes e d links
+is_shortest_by events synchronizes rows steps e d levels links below linked count = record {
+  some = omega arith;
+  linked = linked;
+  shortest = λ middles chain. elim (cases_lt (length middles) (length levels)) [
+    | inl less ↦ absurd (below.below (length middles) less (record {
+      middles = middles;
+      count = refl;
+      chain = Chain-same (IsStep events synchronizes) rows (λ a b h. (steps a b).1 h) e middles d chain;
+    }))
+    | inr other ↦ omega arith
+  ];
+}

@@ -3,13 +3,13 @@ use Rattle.std.proofs.Common.{◌≡◌, ◌⊎◌, ◌↔◌, ℕ, ◌+◌, ◌
 use Rattle.std.specs.Prelude.{slice_index}
 use Rattle.std.specs.List.{slice_get}
 use Rattle.std.proofs.Math.Seq.{get_or-append_seam}
-use Rattle.std.proofs.lemmas.Bool.{cases_eq}
+use Rattle.std.proofs.lemmas.Bool.{cases_eq, cases_order}
 use Rattle.std.proofs.lemmas.List.{get_or_append_left, length-append}
 use Rattle.std.proofs.lemmas.Option.{same_Some, slice_get-get_or, slice_get_within}
 use Rattle.lit_why.specs.declared.derivations.lines.DerivationLine.{DerivationLine}
 use Rattle.lit_why.specs.declared.derivations.lines.Reason.{Reason}
 use Rattle.lit_why.specs.declared.derivations.lines.Reason.TheVariants as reasons
-use Rattle.lit_why.specs.Derivation.{Cites, EachFollows, EndsInCycle, Follows, IsDerivationBy, IsLineOf}
+use Rattle.lit_why.specs.Derivation.{AreOnce, Cites, EachFollows, EndsInCycle, Follows, IsDerivationBy, IsLineOf}
 use Rattle.lit_why.specs.Internal.UsedLines.{AreMoved, CiteEarlier, IsMarked, AreUsedLines, moved_line, moved_reason}
 use Rattle.lit_why.proofs.DerivationLemmas.{pushed_same, pushed_last}
 
@@ -158,8 +158,37 @@ module _ (before : ℕ → ℕ → Type 0) (forbidden : ℕ → ℕ → ℕ → 
             omega arith
       ]
 
-  pub used_lines_derive : IsDerivationBy before forbidden used
-  used_lines_derive = record {
+  -- no pair of the lines that are used has two of them
+  used_once : AreOnce lines → AreOnce used
+  used_once once p q a b less at_p at_q same same_too =
+      let moved = only_used.moved in
+      let from_p = moved.only p (slice_get_within used p a at_p) in
+      let from_q = moved.only q (slice_get_within used q b at_q) in
+      let line_p = get_or lines from_p.0 a in
+      let line_q = get_or lines from_q.0 b in
+      let there_p : slice_get lines from_p.0 ≡ Some line_p = slice_get-get_or lines from_p.0 a from_p.1 in
+      let there_q : slice_get lines from_q.0 ≡ Some line_q = slice_get-get_or lines from_q.0 b from_q.1 in
+      let is_p : moved_line only_used.places line_p ≡ a = same_Some (moved_line only_used.places line_p) a
+      (sym (moved.each from_p.0 line_p from_p.1 from_p.2 there_p) ∙ ap (slice_get used) from_p.3 ∙ at_p) in
+      let is_q : moved_line only_used.places line_q ≡ b = same_Some (moved_line only_used.places line_q) b
+      (sym (moved.each from_q.0 line_q from_q.1 from_q.2 there_q) ∙ ap (slice_get used) from_q.3 ∙ at_q) in
+      let before_same : line_p.before ≡ line_q.before = ap (λ (l : DerivationLine). l.before) is_p ∙ same
+      ∙ sym (ap (λ (l : DerivationLine). l.before) is_q) in
+      let after_same : line_p.after ≡ line_q.after = ap (λ (l : DerivationLine). l.after) is_p ∙ same_too
+      ∙ sym (ap (λ (l : DerivationLine). l.after) is_q) in
+      elim (cases_order from_p.0 from_q.0) [
+        | inl one ↦
+            let places : p ≡ q = sym from_p.3 ∙ ap (slice_index only_used.places) one ∙ from_q.3 in
+            omega (arith, less, places)
+        | inr apart ↦ elim apart [
+          | inl earlier ↦ once from_p.0 from_q.0 line_p line_q earlier there_p there_q before_same after_same
+          | inr later ↦ once from_q.0 from_p.0 line_q line_p later there_q there_p (sym before_same) (sym after_same)
+        ]
+      ]
+
+  pub used_lines_derive : AreOnce lines → IsDerivationBy before forbidden used
+  used_lines_derive once = record {
+    once = used_once once;
     follows = each_moved;
     ends = record { end = slice_index only_used.places ends.end; last = last_moved; event = ends.event; is_cycle = line_moved ends.end ends.event ends.event last_marked ends.is_cycle };
     cited = λ k inside.

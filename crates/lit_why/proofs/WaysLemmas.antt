@@ -1,5 +1,5 @@
--- How many lists of sources store the same bytes, byte read by byte read.
-use Rattle.std.proofs.Common.{◌≡◌, ℕ, zero, suc, ◌+◌, ◌*◌, ◌<◌, ◌≤◌, ◌==◌, ◌&&◌, Bool, true, false, cond, List, [], ◌∷◌, ◌++◌, Some}
+-- How many lists of sources make no difference, byte read by byte read.
+use Rattle.std.proofs.Common.{◌≡◌, ℕ, zero, suc, ◌+◌, ◌*◌, ◌<◌, ◌≤◌, ◌&&◌, Bool, true, false, cond, List, [], ◌∷◌, ◌++◌, Some}
 use Rattle.std.proofs.Common.{arith, refl, sym, ap, ap₂, ◌∙◌}
 use Rattle.std.proofs.Common.{drop, filter, get_or, length, length-append, map}
 use Rattle.std.specs.List.{flat_map}
@@ -10,18 +10,20 @@ use Rattle.lit_paths.specs.ByteReads.{IsCandidate, byte_read_at, byte_reads}
 use Rattle.lit_paths.specs.Choice.{AreSources, candidates_of, product, sources_of}
 use Rattle.lit_paths.specs.Numbers.{length_product, ways_from}
 use Rattle.lit_paths.proofs.Candidates.{candidates_of-found}
-use Rattle.std.proofs.Common.{eq-eqb}
 use Rattle.std.proofs.lemmas.List.{drop_all, drop_more}
-use Rattle.lit_paths.specs.Event.{event_at, payload_at}
-use Rattle.lit_why.specs.Attempts.{give_same_values, store_same}
+use Rattle.lit_paths.specs.Plan.{events_in}
+use Rattle.lit_syntax.specs.Syntax.{Litmus}
+use Rattle.lit_why.specs.Asked.{is_asked}
+use Rattle.lit_why.specs.Attempts.{agree, all_agree, give_same_values}
+use Rattle.lit_why.proofs.AttemptLemmas.{agree_itself}
 
--- how many candidates of each byte read store what the source there does, all multiplied
-abbrev pub same_value_ways : List Event → List (ℕ × ℕ) → List ℕ → ℕ
-same_value_ways events [] sources = 1
-same_value_ways events (read ∷ reads) [] = 0
-same_value_ways events (read ∷ reads) (w ∷ sources) =
-    length (filter (λ v. payload_at (event_at events v) read.1 == payload_at (event_at events w) read.1) (candidates_of events read))
-    * same_value_ways events reads sources
+-- how many candidates of each byte read make no difference to the source there, all multiplied
+abbrev pub same_value_ways : (ℕ → Bool) → List Event → List (ℕ × ℕ) → List ℕ → ℕ
+same_value_ways asked events [] sources = 1
+same_value_ways asked events (read ∷ reads) [] = 0
+same_value_ways asked events (read ∷ reads) (w ∷ sources) =
+    length (filter (agree (asked read.0) events read.1 w) (candidates_of events read))
+    * same_value_ways asked events reads sources
 
 filter-append : {X : Type 0} (p : X → Bool) (xs ys : List X) → filter p (xs ++ ys) ≡ filter p xs ++ filter p ys
 filter-append {X = X} p [] ys = refl
@@ -70,20 +72,20 @@ multiplied f p q (x ∷ firsts) rest same =
     by true = omega arith
     by false = omega arith
 
-pub ways_are : (events : List Event) (reads : List (ℕ × ℕ)) (sources : List ℕ) → length sources ≡ length reads
-    → length (filter (store_same events reads sources) (product (map (candidates_of events) reads))) ≡ same_value_ways events reads sources
-ways_are events [] sources long = refl
-ways_are events (read ∷ reads) [] long = absurd (omega (arith, long))
-ways_are events (read ∷ reads) (w ∷ sources) long =
-    multiplied (λ v. payload_at (event_at events v) read.1 == payload_at (event_at events w) read.1) (store_same events reads sources)
-    (store_same events (read ∷ reads) (w ∷ sources)) (candidates_of events read) (product (map (candidates_of events) reads))
+pub ways_are : (asked : ℕ → Bool) (events : List Event) (reads : List (ℕ × ℕ)) (sources : List ℕ) → length sources ≡ length reads
+    → length (filter (all_agree asked events reads sources) (product (map (candidates_of events) reads))) ≡ same_value_ways asked events reads sources
+ways_are asked events [] sources long = refl
+ways_are asked events (read ∷ reads) [] long = absurd (omega (arith, long))
+ways_are asked events (read ∷ reads) (w ∷ sources) long =
+    multiplied (agree (asked read.0) events read.1 w) (all_agree asked events reads sources)
+    (all_agree asked events (read ∷ reads) (w ∷ sources)) (candidates_of events read) (product (map (candidates_of events) reads))
     (λ x ys. refl)
-    ∙ ap (λ (n : ℕ). length (filter (λ v. payload_at (event_at events v) read.1 == payload_at (event_at events w) read.1)
+    ∙ ap (λ (n : ℕ). length (filter (agree (asked read.0) events read.1 w)
     (candidates_of events read)) * n)
-    (ways_are events reads sources (omega (arith, long)))
+    (ways_are asked events reads sources (omega (arith, long)))
 
 -- ---- from the last byte read on
--- a source stores the same byte as itself
+-- a member that passes is counted
 counts_itself : (f : ℕ → Bool) (w : ℕ) (xs : List ℕ) (k : ℕ) → slice_get xs k ≡ Some w → f w ≡ true → 1 ≤ length (filter f xs)
 counts_itself f w [] k at is = absurd (let e = at in cc)
 counts_itself f w (x ∷ xs) zero at is =
@@ -105,35 +107,41 @@ count_within f (x ∷ xs) = by (f x) (count_within f xs)
     by false later = omega (arith, later)
 
 -- no more than there are in all
-pub ways_within : (events : List Event) (reads : List (ℕ × ℕ)) (sources : List ℕ) → same_value_ways events reads sources
+pub ways_within : (asked : ℕ → Bool) (events : List Event) (reads : List (ℕ × ℕ)) (sources : List ℕ) → same_value_ways asked events reads sources
     ≤ length_product (map (candidates_of events) reads)
-ways_within events [] sources = omega arith
-ways_within events (read ∷ reads) [] = omega arith
-ways_within events (read ∷ reads) (w ∷ sources) =
-    let f : ℕ → Bool = λ v. payload_at (event_at events v) read.1 == payload_at (event_at events w) read.1 in
-    le_trans (mul-le-mul_right (same_value_ways events reads sources) (count_within f (candidates_of events read)))
-    (mul-le-mul_left (length (candidates_of events read)) (ways_within events reads sources))
+ways_within asked events [] sources = omega arith
+ways_within asked events (read ∷ reads) [] = omega arith
+ways_within asked events (read ∷ reads) (w ∷ sources) =
+    let f : ℕ → Bool = agree (asked read.0) events read.1 w in
+    le_trans (mul-le-mul_right (same_value_ways asked events reads sources) (count_within f (candidates_of events read)))
+    (mul-le-mul_left (length (candidates_of events read)) (ways_within asked events reads sources))
 
 -- no fewer than from a place on
-pub ways_later : (events : List Event) (reads : List (ℕ × ℕ)) (sources : List ℕ) (k : ℕ) → length sources ≡ length reads
+pub ways_later : (asked : ℕ → Bool) (events : List Event) (reads : List (ℕ × ℕ)) (sources : List ℕ) (k : ℕ) → length sources ≡ length reads
     → ((i w : ℕ) (read : ℕ × ℕ) → slice_get reads i ≡ Some read → slice_get sources i ≡ Some w → IsCandidate events read.0 read.1 w)
-    → same_value_ways events (drop k reads) (drop k sources) ≤ same_value_ways events reads sources
-ways_later events reads sources zero long each = omega arith
-ways_later events [] [] (suc k) long each = omega arith
-ways_later events [] (w ∷ sources) (suc k) long each = absurd (omega (arith, long))
-ways_later events (read ∷ reads) [] (suc k) long each = absurd (omega (arith, long))
-ways_later events (read ∷ reads) (w ∷ sources) (suc k) long each =
-    let f : ℕ → Bool = λ v. payload_at (event_at events v) read.1 == payload_at (event_at events w) read.1 in
+    → same_value_ways asked events (drop k reads) (drop k sources) ≤ same_value_ways asked events reads sources
+ways_later asked events reads sources zero long each = omega arith
+ways_later asked events [] [] (suc k) long each = omega arith
+ways_later asked events [] (w ∷ sources) (suc k) long each = absurd (omega (arith, long))
+ways_later asked events (read ∷ reads) [] (suc k) long each = absurd (omega (arith, long))
+ways_later asked events (read ∷ reads) (w ∷ sources) (suc k) long each =
+    let f : ℕ → Bool = agree (asked read.0) events read.1 w in
     let found = candidates_of-found events read.0 read.1 w (each 0 w read refl refl) in
     let some : 1 ≤ length (filter f (candidates_of events read)) = counts_itself f w (candidates_of events read) found.0 found.1
-    (eq-eqb _ _ refl) in
-    let later = ways_later events reads sources k (omega (arith, long)) (λ i v other at is. each (suc i) v other at is) in
-    let more : 1 * same_value_ways events reads sources ≤ length (filter f (candidates_of events read)) * same_value_ways events reads sources =
-    mul-le-mul_right (same_value_ways events reads sources) some in
+    (agree_itself (asked read.0) events read.1 w) in
+    let later = ways_later asked events reads sources k (omega (arith, long)) (λ i v other at is. each (suc i) v other at is) in
+    let more : 1 * same_value_ways asked events reads sources ≤ length (filter f (candidates_of events read)) * same_value_ways asked events reads sources =
+    mul-le-mul_right (same_value_ways asked events reads sources) some in
     omega (arith, later, more)
 
 -- ---- the byte reads of a combination, from the last one to the first
-module _ (events : List Event) (sources : List ℕ) (are : AreSources events sources) where
+module _ (t : Litmus) (c : ℕ) (sources : List ℕ) (are : AreSources (events_in t c) sources) where
+  abbrev events : List Event
+  events = events_in t c
+
+  abbrev asked : ℕ → Bool
+  asked = is_asked t c
+
   abbrev reads : List (ℕ × ℕ)
   reads = byte_reads events
 
@@ -142,21 +150,20 @@ module _ (events : List Event) (sources : List ℕ) (are : AreSources events sou
 
   -- how many from a place on
   abbrev pub ways_on : ℕ → ℕ
-  ways_on k = same_value_ways events (drop k reads) (drop k sources)
+  ways_on k = same_value_ways asked events (drop k reads) (drop k sources)
 
   pub ways_end : (k : ℕ) → length sources ≤ k → ways_on k ≡ 1
   ways_end k past =
-      ap₂ (same_value_ways events) (drop_all k reads (omega (arith, past, are.one_each))) (drop_all k sources past)
+      ap₂ (same_value_ways asked events) (drop_all k reads (omega (arith, past, are.one_each))) (drop_all k sources past)
 
   pub ways_step : (k : ℕ) → k < length sources
-      → ways_on k ≡ length (filter (λ v. payload_at (event_at events v) (byte_read_at events k).1 == payload_at
-      (event_at events (get_or sources k 0)) (byte_read_at events k).1)
+      → ways_on k ≡ length (filter (agree (asked (byte_read_at events k).0) events (byte_read_at events k).1 (get_or sources k 0))
       (candidates_of events (byte_read_at events k))) * ways_on (k + 1)
-  ways_step k inside = ap₂ (same_value_ways events) (drop_more reads k (0, 0) (omega (arith, inside, are.one_each)))
+  ways_step k inside = ap₂ (same_value_ways asked events) (drop_more reads k (0, 0) (omega (arith, inside, are.one_each)))
       (drop_more sources k 0 inside)
 
   pub ways_small : (k : ℕ) → ways_on k ≤ ways_from events 0
-  ways_small k = le_trans (ways_later events reads sources k are.one_each each) (ways_within events reads sources)
+  ways_small k = le_trans (ways_later asked events reads sources k are.one_each each) (ways_within asked events reads sources)
 
-  pub ways_all : ways_on 0 ≡ length (filter (give_same_values events sources) (sources_of events))
-  ways_all = sym (ways_are events reads sources are.one_each)
+  pub ways_all : ways_on 0 ≡ length (filter (give_same_values t c sources) (sources_of events))
+  ways_all = sym (ways_are asked events reads sources are.one_each)

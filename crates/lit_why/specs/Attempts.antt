@@ -1,6 +1,6 @@
--- Attempts at an outcome: a combination of paths, with values of its reads that the guards allow and that put the outcome in a
--- class (this project's own). An attempt need not have a valid execution.
-use Rattle.std.specs.Prelude.{◌≡◌, ◌⊎◌, ℕ, ◌+◌, ◌<◌, ◌≤◌, ◌==◌, ◌&&◌, Bool, IsTrue, true, false}
+-- Attempts at an outcome: a combination of paths, with values of the reads that are asked about, such that the guards hold and the outcome
+-- is in a class (this project's own). An attempt need not have a valid execution.
+use Rattle.std.specs.Prelude.{◌≡◌, ◌⊎◌, ℕ, ◌+◌, ◌<◌, ◌≤◌, ◌==◌, ◌&&◌, ◌||◌, Bool, IsTrue, not, true, false}
 use Rattle.std.specs.Prelude.{List, [], ◌∷◌, Some, filter, length, slice_get}
 use Rattle.lit_syntax.specs.Syntax.{Litmus}
 use Rattle.lit_paths.specs.declared.event.Event.{Event}
@@ -13,6 +13,7 @@ use Rattle.lit_rel.specs.Part.{PartModel}
 use Rattle.lit_valid.specs.declared.class.Class.{Class}
 use Rattle.lit_valid.specs.Class.{is_of_class}
 use Rattle.lit_valid.specs.PartOutcome.{part_outcome}
+use Rattle.lit_why.specs.Asked.{is_asked}
 use Rattle.lit_why.specs.declared.attempt.Attempt.{Attempt}
 
 -- choice n is on combination c, with these sources
@@ -38,38 +39,43 @@ pub record TriesClass (t : Litmus) (class : Class) (n : ℕ) : Type 0 where
   pub on : IsOn t n combination sources
   pub is_try : IsTry t class combination sources
 
--- whether two lists of sources store the same byte for each of these byte reads
-abbrev pub store_same : List Event → List (ℕ × ℕ) → List ℕ → List ℕ → Bool
-store_same events [] some other = true
-store_same events (read ∷ reads) [] other = false
-store_same events (read ∷ reads) (v ∷ some) [] = false
-store_same events (read ∷ reads) (v ∷ some) (w ∷ other) =
-    (payload_at (event_at events w) read.1 == payload_at (event_at events v) read.1) && store_same events reads some other
+-- whether two sources of a byte of a read make no difference: the read is not asked about, or they store the same byte there
+abbrev pub agree : Bool → List Event → (byte v w : ℕ) → Bool
+agree asked events byte v w = not asked || (payload_at (event_at events w) byte == payload_at (event_at events v) byte)
 
--- whether two lists of sources store the same byte for each byte read of a combination, so that each read has the same value
-abbrev pub give_same_values : List Event → List ℕ → List ℕ → Bool
-give_same_values events some other = store_same events (byte_reads events) some other
+-- whether two lists of sources make no difference for any of these byte reads
+abbrev pub all_agree : (ℕ → Bool) → List Event → List (ℕ × ℕ) → List ℕ → List ℕ → Bool
+all_agree asked events [] some other = true
+all_agree asked events (read ∷ reads) [] other = false
+all_agree asked events (read ∷ reads) (v ∷ some) [] = false
+all_agree asked events (read ∷ reads) (v ∷ some) (w ∷ other) =
+    agree (asked read.0) events read.1 v w && all_agree asked events reads some other
 
--- choices m and n are of one attempt: they are on one combination, and give each read the same value
+-- whether two lists of sources store the same byte for each byte read of a combination that is asked about, so that each read that is
+-- asked about has the same value
+abbrev pub give_same_values : Litmus → ℕ → List ℕ → List ℕ → Bool
+give_same_values t c some other = all_agree (is_asked t c) (events_in t c) (byte_reads (events_in t c)) some other
+
+-- choices m and n are of one attempt: they are on one combination, and give each read that is asked about the same value
 pub record AreOneAttempt (t : Litmus) (m n : ℕ) : Type 0 where
   pub combination : ℕ
   pub some : List ℕ
   pub other : List ℕ
   pub on_some : IsOn t m combination some
   pub on_other : IsOn t n combination other
-  pub same_values : IsTrue (give_same_values (events_in t combination) some other)
+  pub same_values : IsTrue (give_same_values t combination some other)
 
 -- choice n is the first of an attempt at the class
 pub record IsLeastTry (t : Litmus) (class : Class) (n : ℕ) : Type 0 where
   pub tries : TriesClass t class n
   pub least : (m : ℕ) → m < n → ¬ AreOneAttempt t m n
 
--- so many of the choices on the combination of choice n give each read the value that choice n gives it
+-- so many of the choices on the combination of choice n give each read that is asked about the value that choice n gives it
 pub record HasSoMany (t : Litmus) (n count : ℕ) : Type 0 where
   pub combination : ℕ
   pub sources : List ℕ
   pub on : IsOn t n combination sources
-  pub are : count ≡ length (filter (give_same_values (events_in t combination) sources) (sources_of (events_in t combination)))
+  pub are : count ≡ length (filter (give_same_values t combination sources) (sources_of (events_in t combination)))
 
 -- an attempt at the class, by the number of its first choice and how many choices it has
 pub record IsAttempt (t : Litmus) (class : Class) (attempt : Attempt) : Type 0 where

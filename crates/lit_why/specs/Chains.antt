@@ -1,5 +1,5 @@
 -- Shortest chains of happens-before (ECMA-262, 2024, 29.6.6; the kinds of steps are this project's own).
-use Rattle.std.specs.Prelude.{◌≡◌, ℕ, ◌+◌, ◌<◌, ◌≤◌, List, [], ◌∷◌, length}
+use Rattle.std.specs.Prelude.{◌≡◌, ◌⊎◌, ℕ, ◌+◌, ◌<◌, ◌≤◌, List, [], ◌∷◌, length}
 use Rattle.lit_paths.specs.declared.event.Event.{Event}
 use Rattle.lit_rel.specs.AgentOrder.{IsAgentOrdered}
 use Rattle.lit_rel.specs.HappensBefore.{Chain, IsMadeBefore, StepBy}
@@ -32,4 +32,11 @@ pub record IsShortestChain (part : PartModel) (e d : ℕ) (links : List Link) : 
   pub some : 0 < length links
   pub linked : AreLinked (part_events part) part.sources e links d
   pub shortest : (middles : List ℕ) → Chain (StepBy (part_events part) (ReadsByteFrom (part_events part) part.sources)) e middles d
+      → length links ≤ length middles + 1
+
+-- the same, by a relation that stands for synchronizes-with
+pub record IsShortestChainBy (events : List Event) (synchronizes : ℕ → ℕ → Type 0) (e d : ℕ) (links : List Link) : Type 0 where
+  pub some : 0 < length links
+  pub linked : AreLinkedBy events synchronizes e links d
+  pub shortest : (middles : List ℕ) → Chain (λ a b. IsAgentOrdered events a b ⊎ synchronizes a b ⊎ IsMadeBefore events a b) e middles d
       → length links ≤ length middles + 1

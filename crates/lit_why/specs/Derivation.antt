@@ -52,11 +52,18 @@ pub record IsCitedLater (lines : List DerivationLine) (place : ℕ) : Type 0 whe
   pub after : place < later
   pub cites : Cites line.reason place
 
--- each line follows, the last one is a cycle, and each of the others is cited by a later one
+-- no two lines have the same pair
+abbrev pub AreOnce : List DerivationLine → Type 0
+AreOnce lines =
+    (j k : ℕ) (a b : DerivationLine) → j < k → slice_get lines j ≡ Some a → slice_get lines k ≡ Some b → a.before ≡ b.before
+    → a.after ≡ b.after → ⊥
+
+-- each line follows, the last one is a cycle, each of the others is cited by a later one, and no pair has two lines
 pub record IsDerivationBy (before : ℕ → ℕ → Type 0) (forbidden : ℕ → ℕ → ℕ → Type 0) (lines : List DerivationLine) : Type 0 where
   pub follows : EachFollows before forbidden lines
   pub ends : EndsInCycle lines
   pub cited : (k : ℕ) → k + 1 < length lines → IsCitedLater lines k
+  pub once : AreOnce lines
 
 -- the same, by the happens-before and the forbidden triples of these sources
 abbrev pub IsDerivation : List Event → List ℕ → List DerivationLine → Type 0

@@ -1,6 +1,6 @@
 -- Notions of the contracts inside this crate: steps of derivations, and which of their lines are used; chains of so many steps; races
 -- from one event on, and data races on one combination; what refuses a part; the domains that a search begins with, what they say of
--- attempts, and how a list of attempts grows.
+-- attempts, and how a list of attempts grows; the relations of what is given in a box.
 pub mod Added
 pub mod Deriving
 pub mod Domains
@@ -9,4 +9,5 @@ pub mod RacesOn
 pub mod Racing
 pub mod Reaching
 pub mod Refusing
+pub mod Relations
 pub mod Trials

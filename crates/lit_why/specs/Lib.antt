@@ -1,3 +1,4 @@
+pub mod Asked
 pub mod Attempts
 pub mod Chains
 pub mod Derivation
@@ -5,3 +6,4 @@ pub mod FirstRace
 pub mod Internal
 pub mod RacingPair
 pub mod Refusal
+pub mod Refutation

@@ -2,13 +2,13 @@
 
 pub(crate) mod links;
 mod reaching;
-mod steps;
+pub(crate) mod steps;
 
-ghost use Rattle.std.specs.Prelude.{◌≡◌, ◌↔◌, ℕ, ◌+◌, ◌<◌, MatchOption, length};
+ghost use Rattle.std.specs.Prelude.{◌≡◌, ◌↔◌, ℕ, ◌+◌, ◌<◌, IfSome, MatchOption, length};
 ghost use Rattle.lit_rel.specs.HappensBefore.{HappensBefore};
 ghost use Rattle.lit_rel.specs.Part.{part_events};
 ghost use Rattle.lit_rel.specs.Rows.{Holds, rows_len};
-ghost use Rattle.lit_why.specs.Chains.{AreLinkedBy, IsOfKindBy, IsShortestChain};
+ghost use Rattle.lit_why.specs.Chains.{AreLinkedBy, IsOfKindBy, IsShortestChain, IsShortestChainBy};
 ghost use Rattle.lit_why.specs.Internal.Reaching.{AreLevels, IsReachedBy, IsStep};
 
 use crate::chains::links::{Chain, Link};
@@ -93,4 +93,23 @@ pub fn chain(part: &Part<'_>, from: u8, to: u8) -> Option<Chain>
         }),
         None => None,
     }
+}
+
+/// The same, by synchronizes-with as rows, on as many events. `None` where there is no chain, or the events are not as many.
+pub fn chain_by(events: &[Event], synchronizes: &Rows, from: u8, to: u8) -> Option<Chain>
+    ensures { IfSome result (λ chain. IsShortestChainBy events.now (Holds synchronizes.now) from to chain.links.items) }
+{
+    if synchronizes.len() != events.len() {
+        return None;
+    }
+    let steps = steps_of(events, synchronizes);
+    let (first, last) = (usize::from(from), usize::from(to));
+    if first >= steps.len() || last >= steps.len() {
+        return None;
+    }
+    let levels = levels_below(&steps, first, last)?;
+    let levels = levels.as_slice();
+    Some(Chain {
+        links: links_along(events, synchronizes, &steps, levels, first, last),
+    })
 }

@@ -5,18 +5,19 @@ pub(crate) mod lines;
 mod searching;
 mod used_lines;
 
-ghost use Rattle.std.specs.Prelude.{ℕ, ◌<◌, IfOk, MatchOption};
+ghost use Rattle.std.specs.Prelude.{ℕ, ◌<◌, IfOk, IfSome, MatchOption};
 ghost use Rattle.lit_order.specs.Forcing.{HasForcedCycle};
+ghost use Rattle.lit_rel.specs.Between.{Forbids};
 ghost use Rattle.lit_rel.specs.Forbidden.{IsForbidden};
 ghost use Rattle.lit_rel.specs.HappensBefore.{HappensBefore};
 ghost use Rattle.lit_rel.specs.Part.{part_events};
 ghost use Rattle.lit_rel.specs.Rows.{Holds};
-ghost use Rattle.lit_why.specs.Derivation.{IsDerivation};
+ghost use Rattle.lit_why.specs.Derivation.{IsDerivation, IsDerivationBy};
 
 use crate::derivations::lines::{DerivationLine, Reason};
 use crate::derivations::searching::lines_to_cycle;
 use crate::derivations::used_lines::only_used;
-use lit_rel::{Part, Rows};
+use lit_rel::{Between, Part, Rows};
 use std::alloc::{AllocError, Global};
 
 /// The least event that a relation has before itself.
@@ -53,6 +54,27 @@ pub fn derivation(alloc: Global, part: &Part<'_>) -> Result<Option<Vec<Derivatio
         return Ok(Some(lines));
     }
     match lines_to_cycle(alloc, &before, &between)? {
+        Some(lines) => Ok(Some(only_used(alloc, lines.as_slice())?)),
+        None => Ok(None),
+    }
+}
+
+/// The same, by a relation and by triples of as many events. `None` where no event is forced before itself, or the events are not as many.
+pub fn derivation_by(
+    alloc: Global,
+    before: &Rows,
+    between: &Between,
+) -> Result<Option<Vec<DerivationLine>>, AllocError>
+    ensures { IfOk result (λ found. IfSome found (λ lines. IsDerivationBy (Holds before.now) (Forbids between.now) lines.items)) }
+{
+    if before.len() != between.len() {
+        return Ok(None);
+    }
+    // `lines_to_cycle` needs a relation without a cycle.
+    if let Some(_event) = first_before_itself(before) {
+        return Ok(None);
+    }
+    match lines_to_cycle(alloc, before, between)? {
         Some(lines) => Ok(Some(only_used(alloc, lines.as_slice())?)),
         None => Ok(None),
     }

@@ -1,6 +1,6 @@
 //! Enumeration of the attempts at a class: on each combination a depth-first search that branches on the byte stored for each byte read.
 
-ghost use Rattle.std.specs.Prelude.{◌↔◌, ℕ, ◌≤◌, ◌<◌, IfOk, IsTrue, OnOk, length, true};
+ghost use Rattle.std.specs.Prelude.{◌≡◌, ◌↔◌, ℕ, ◌≤◌, ◌<◌, IfOk, IsTrue, OnOk, length, true};
 ghost use Rattle.lit_syntax.specs.Syntax.{IsLitmus};
 ghost use Rattle.lit_paths.specs.ByteReads.{byte_reads};
 ghost use Rattle.lit_paths.specs.Choice.{AreSources, combinations_of};
@@ -40,7 +40,8 @@ fn least_sources(problem: &Problem<'_>, domains: &Domains) -> Sources
 }
 
 /// The number of the choice with these sources, one for each byte read, and how many choices its attempt has.
-fn attempt_of(problem: &Problem<'_>, sources: &[u8]) -> Attempt
+fn attempt_of(plan: &Plan<'_>, problem: &Problem<'_>, sources: &[u8]) -> Attempt
+    requires plan { plan.now ≡ problem.now.0 }
     requires known { problem.now.1 < length (combinations_of problem.now.0) }
     requires sourced { AreSources (events_on problem.now) sources.now }
     ensures on { IsOn problem.now.0 result.choice problem.now.1 sources.now }
@@ -49,18 +50,20 @@ fn attempt_of(problem: &Problem<'_>, sources: &[u8]) -> Attempt
     let combination = problem.combination();
     Attempt {
         choice: number_of(combination, sources),
-        choices: count_same_values(combination, sources),
+        choices: count_same_values(plan, combination, sources),
     }
 }
 
 /// Adds the attempt of a leaf: the domain of each byte read has one source, and these sources try the class.
 fn add_one(
+    plan: &Plan<'_>,
     problem: &Problem<'_>,
     class: Class,
     most: usize,
     domains: &Domains,
     attempts: &mut Vec<Attempt>,
 ) -> Result<(), AllocError>
+    requires plan { plan.now ≡ problem.now.0 }
     requires node { IsNode (box_with problem.now domains.now) (length (byte_reads (events_on problem.now))) }
     requires room { length attempts.old.items < most }
     requires can_try { MayTry (box_with problem.now domains.now) class true }
@@ -70,12 +73,13 @@ fn add_one(
     // Tells the prover the laws of the crates below.
     laws_below();
     let sources = least_sources(problem, domains);
-    attempts.push(attempt_of(problem, sources.as_slice()))?;
+    attempts.push(attempt_of(plan, problem, sources.as_slice()))?;
     Ok(())
 }
 
 /// Adds the attempts by sources in the domains, until there are `most`. Each byte read before a place has one source.
 fn add(
+    plan: &Plan<'_>,
     problem: &Problem<'_>,
     class: Class,
     most: usize,
@@ -83,6 +87,7 @@ fn add(
     place: usize,
     attempts: &mut Vec<Attempt>,
 ) -> Result<(), AllocError>
+    requires plan { plan.now ≡ problem.now.0 }
     requires node { IsNode (box_with problem.now domains.now) place }
     requires few { length attempts.old.items ≤ most }
     ensures { OnOk result (Adds problem.now.0 most (TriesIn (box_with problem.now domains.now) class)
@@ -96,13 +101,13 @@ fn add(
         return Ok(());
     }
     if place == problem.combination().byte_reads().len() {
-        return add_one(problem, class, most, domains, attempts);
+        return add_one(plan, problem, class, most, domains, attempts);
     }
     let mut left = domains[place];
     while let Some((source, others)) = left.split_first() {
         let mut next = *domains;
         next[place] = EventSet::new().with(source);
-        add(problem, class, most, &next, place + 1, attempts)?;
+        add(plan, problem, class, most, &next, place + 1, attempts)?;
         left = others;
     }
     Ok(())
@@ -124,11 +129,13 @@ fn has_empty(problem: &Problem<'_>, domains: &Domains) -> bool
 
 /// Adds the attempts on a combination, until there are `most`.
 fn add_on(
+    plan: &Plan<'_>,
     problem: &Problem<'_>,
     class: Class,
     most: usize,
     attempts: &mut Vec<Attempt>,
 ) -> Result<(), AllocError>
+    requires plan { plan.now ≡ problem.now.0 }
     requires litmus { IsLitmus problem.now.0 }
     requires known { problem.now.1 < length (combinations_of problem.now.0) }
     requires few { length attempts.old.items ≤ most }
@@ -136,16 +143,16 @@ fn add_on(
         attempts.old.items attempts.new.items) }
 {
     // The second law says that a source which a guard refuses makes a guard of every complete part with it false, so the domains of
-    // representatives lose no attempt (decision 37).
+    // representatives lose no attempt (decision 142).
     laws_below();
     refused_bytes_make_guards_false();
     // Tells the prover that there are few events and few byte reads.
     let _events = problem.combination().events();
-    let domains = representatives(problem.combination());
+    let domains = representatives(plan, problem.combination());
     if has_empty(problem, &domains) {
         return Ok(());
     }
-    add(problem, class, most, &domains, 0, attempts)
+    add(plan, problem, class, most, &domains, 0, attempts)
 }
 
 /// The first `most` attempts at a class of a plan's test, in the order of their first choices: each combination of paths with values
@@ -164,7 +171,7 @@ pub fn attempts(
     let mut found = Vec::new(alloc);
     for combination in 0..plan.combinations() {
         let problem = Problem::open(&*plan, combination);
-        add_on(&problem, class, most, &mut found)?;
+        add_on(plan, &problem, class, most, &mut found)?;
     }
     Ok(found)
 }

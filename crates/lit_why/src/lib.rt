@@ -4,7 +4,9 @@
 //! The definitions stand in `specs/`.
 #![tactic(auto)]
 
+mod asking;
 mod attempt;
+mod cases;
 mod chains;
 mod counting;
 mod derivations;
@@ -19,10 +21,13 @@ mod representatives;
 mod trials;
 
 pub use attempt::Attempt;
-pub use chains::chain;
+pub use cases::covering::Case;
+pub use cases::given::{Relations, between_of, is_box, relations_of};
+pub use cases::{Cover, cover_of};
 pub use chains::links::{Chain, Link, StepKind};
-pub use derivations::derivation;
+pub use chains::{chain, chain_by};
 pub use derivations::lines::{DerivationLine, Reason};
+pub use derivations::{derivation, derivation_by};
 pub use enumeration::attempts;
 pub use parts::part_of;
 pub use race_example::{RaceExample, first_race};

@@ -2,8 +2,8 @@
 
 pub(crate) mod causes;
 mod guards;
-mod incoherence;
-mod tearing;
+pub(crate) mod incoherence;
+pub(crate) mod tearing;
 
 ghost use Rattle.std.specs.Prelude.{◌≡◌, ◌↔◌, ◌<◌, IsTrue, MatchOption, length};
 ghost use Rattle.lit_order.specs.MemoryOrder.{HasOrder};
@@ -24,7 +24,7 @@ use lit_rel::{Between, Part, Rows};
 use lit_valid::laws::whole_parts_are_decided_by_orders;
 
 /// Whether some order respects a relation and avoids forbidden triples, both on the same events.
-fn has_order(before: &Rows, between: &Between) -> bool
+pub(crate) fn has_order(before: &Rows, between: &Between) -> bool
     requires { rows_len before.now ≡ between.now.len }
     ensures { IsTrue result ↔ HasOrder (rows_len before.now) (Holds before.now) (Forbids between.now) }
 {

@@ -4,6 +4,8 @@
 #[cfg(test)]
 mod attempts;
 #[cfg(test)]
+mod covers;
+#[cfg(test)]
 mod race;
 #[cfg(test)]
 mod why;

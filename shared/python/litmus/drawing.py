@@ -96,7 +96,7 @@ class Drawing:
     def join_sources(self):
         for name in self.sources:
             for box in dict.fromkeys(self.boxes[source] for source in self.sources[name]):
-                given = [(str(byte), source) for byte, source in zip(self.events[name].range(), self.sources[name])
+                given = [(str(byte), source) for byte, source in zip(self.execution.bytes[name], self.sources[name])
                          if self.boxes[source] == box]
                 text = ("byte " if len(given) == 1 else "bytes ") + span([byte for byte, _ in given])
                 if (box, name) in self.execution.synchronizes:

@@ -17,13 +17,15 @@ class Event(collections.namedtuple("Event", "name line kind order first size rea
 
 
 class Execution:
-    """`events` by name in the order of their numbers, `sources` by the name of a read, pairs of names, and what refuses it."""
+    """`events` by name in the order of their numbers, `sources` and their `bytes` by the name of a read, pairs of names, and what refuses it."""
 
     def __init__(self, told):
         self.events = {each["name"]: Event(*map(each.get, Event._fields)) for each in told["events"]}
-        self.sources = {}
+        # Of an attempt's case there are the bytes that are given: these need not be all of a read.
+        self.sources, self.bytes = {}, {}
         for each in told["from"]:
             self.sources.setdefault(each["read"], []).append(each["source"])
+            self.bytes.setdefault(each["read"], []).append(each["byte"])
         self.order, self.refusal = told["order"] or [], told["refusal"]
         self.synchronizes = {tuple(pair) for pair in told["synchronizes_with"]}
         # In an execution that is not valid no data race counts.

@@ -41,6 +41,8 @@ def attempt(why, unmet, name, data):
     many = f"{'' if answer['whole'] else 'more than '}{count} attempt{'' if count == 1 else 's'}"
     refused = f"refused by {first['clause']} ({first['section']})"
     these = refused if count == 1 else f"{first['attempts']} {refused}, this one first"
+    if first["cases"] > 1 or first["cases"] and not first["whole"]:
+        these += f", the first of {'' if first['whole'] else 'more than '}{first['cases']} cases"
     return Drawing(f"{answer['test']}: {answer['verdict']}, {many}\n{these}", data, Execution(first["execution"]))
 
 

@@ -1,8 +1,7 @@
 -- What the domains of a box say of attempts by sources that lie in it.
-use Rattle.std.specs.Prelude.{◌≡◌, ℕ, ◌+◌, ◌<◌, ◌≤◌, Bool, true, false, List, Some, length}
+use Rattle.std.specs.Prelude.{Some, ℕ, ◌+◌, ◌<◌, ◌≤◌, Bool, IsTrue, true, false, List, length}
 use Rattle.lit_syntax.specs.Syntax.{Litmus}
 use Rattle.lit_paths.specs.ByteReads.{IsCandidate, byte_reads}
-use Rattle.lit_paths.specs.Event.{event_at, payload_at}
 use Rattle.lit_paths.specs.Plan.{choices_before}
 use Rattle.lit_rel.specs.Broken.{HasFalseGuard, HasFalseGuardOn}
 use Rattle.lit_rel.specs.ReadsFrom.{value_of}
@@ -12,16 +11,17 @@ use Rattle.lit_solve.specs.Fill.{AreSourcesIn}
 use Rattle.lit_solve.specs.Given.{HasAlone}
 use Rattle.lit_solve.specs.Prunable.{IsRefusedOn}
 use Rattle.lit_solve.specs.Prospect.{IsUndecidedAt}
-use Rattle.lit_why.specs.Attempts.{IsLeastTry, IsOn, IsTry, part_with}
+use Rattle.lit_why.specs.Asked.{is_asked}
+use Rattle.lit_why.specs.Attempts.{IsLeastTry, IsOn, IsTry, agree, part_with}
 
--- some lesser event that could be the source of a byte read stores the same byte there
+-- some lesser event could be the source of a byte read, which would make no difference
 pub record IsStoredBefore (c : Litmus × ℕ) (read : ℕ × ℕ) (w : ℕ) : Type 0 where
   pub other : ℕ
   pub candidate : IsCandidate (events_on c) read.0 read.1 other
   pub lesser : other < w
-  pub same : payload_at (event_at (events_on c) other) read.1 ≡ payload_at (event_at (events_on c) w) read.1
+  pub same : IsTrue (agree (is_asked c.0 c.1 read.0) (events_on c) read.1 other w)
 
--- w is the least of the candidates of a byte read that store the same byte, and no guard refuses it
+-- w is the least of the candidates of a byte read between which there is no difference, and no guard refuses it
 pub record IsRepresentative (c : Litmus × ℕ) (read : ℕ × ℕ) (w : ℕ) : Type 0 where
   pub candidate : IsCandidate (events_on c) read.0 read.1 w
   pub allowed : ¬ IsRefusedOn c read.0 read.1 w

@@ -1,10 +1,10 @@
 //! Forward chaining: adds lines to a derivation, iteration by iteration, until one is a cycle.
 
-ghost use Rattle.std.specs.Prelude.{◌≡◌, ℕ, ◌<◌, IfOk, MatchOption, OnOk};
+ghost use Rattle.std.specs.Prelude.{◌≡◌, ◌⊎◌, ℕ, ◌<◌, IfOk, MatchOption, OnOk};
 ghost use Rattle.lit_order.specs.Forcing.{HasForcedCycle};
 ghost use Rattle.lit_rel.specs.Between.{Forbids};
 ghost use Rattle.lit_rel.specs.Rows.{Holds, rows_len};
-ghost use Rattle.lit_why.specs.Derivation.{EachFollows, EndsInCycle};
+ghost use Rattle.lit_why.specs.Derivation.{AreOnce, EachFollows, EndsInCycle};
 ghost use Rattle.lit_why.specs.Internal.Deriving.{AreGiven, HasLine, HasLines};
 
 use crate::derivations::following::next_line;
@@ -22,6 +22,8 @@ fn push_given(
     ensures given { OnOk result (AreGiven (Holds before.now) lines.old.items → AreGiven (Holds before.now) lines.new.items) }
     ensures retained { OnOk result ((e d : ℕ) → HasLine lines.old.items e d → HasLine lines.new.items e d) }
     ensures all { OnOk result ((d : ℕ) → Holds before.now first d → HasLine lines.new.items first d) }
+    ensures once { OnOk result (AreOnce lines.old.items → ((d : ℕ) → ¬ HasLine lines.old.items first d) → AreOnce lines.new.items) }
+    ensures only { OnOk result ((e d : ℕ) → HasLine lines.new.items e d → HasLine lines.old.items e d ⊎ (e ≡ first)) }
 {
     for second in 0..before.len() {
         if before.holds(first, second) {
@@ -37,7 +39,8 @@ fn push_given(
 
 /// A line for each pair of a relation.
 fn given_lines(alloc: Global, before: &Rows) -> Result<Vec<DerivationLine>, AllocError>
-    ensures { IfOk result (λ lines. AreGiven (Holds before.now) lines.items × HasLines lines.items (Holds before.now)) }
+    ensures { IfOk result (λ lines. AreGiven (Holds before.now) lines.items × HasLines lines.items (Holds before.now)
+        × AreOnce lines.items) }
 {
     let mut lines = Vec::new(alloc);
     for first in 0..before.len() {
@@ -57,7 +60,8 @@ pub(crate) fn lines_to_cycle(
     requires len { rows_len before.now ≡ between.now.len }
     requires no_cycle { (e : ℕ) → ¬ Holds before.now e e }
     ensures { IfOk result (λ found. MatchOption found (¬ HasForcedCycle (Holds before.now) (Forbids between.now))
-        (λ lines. EachFollows (Holds before.now) (Forbids between.now) lines.items × EndsInCycle lines.items)) }
+        (λ lines. EachFollows (Holds before.now) (Forbids between.now) lines.items × EndsInCycle lines.items
+        × AreOnce lines.items)) }
 {
     let mut lines = given_lines(alloc, before)?;
     // The pairs of earlier iterations, and all pairs so far.

@@ -2,23 +2,13 @@
 
 ghost use Rattle.std.specs.Prelude.{◌≡◌, ◌↔◌, ℕ, ◌<◌, Some, IsTrue, MatchOption, slice_get};
 ghost use Rattle.lit_paths.specs.declared.path.Tested.{Tested as PathGuard};
-ghost use Rattle.lit_rel.specs.Broken.{number_on};
 ghost use Rattle.lit_valid.specs.PartOutcome.{observed_value};
 ghost use Rattle.lit_why.specs.Internal.Refusing.{IsFirstFalse, IsLeastFalse};
 ghost use Rattle.lit_why.specs.Refusal.{HasNoFalse, IsFalseIn};
 
+use crate::asking::number_asked;
 use lit_paths::Tested;
 use lit_rel::Part;
-
-/// The number of the read whose value a guard compares, on a path whose first event has this number; `None` for a register
-/// that was not written.
-fn number_asked(guard: Tested, first: u8) -> Option<usize>
-    ensures { result ≡ number_on first guard.on }
-{
-    guard
-        .on
-        .map(|place| usize::from(first) + usize::from(place))
-}
 
 /// The value of a read by the part's sources, or 0 where there is none.
 fn value_asked(part: &Part<'_>, asked: Option<usize>) -> u32

@@ -51,7 +51,7 @@ fn hiding(events: &[Event], before: &Rows, at: ByteRead, source: u8) -> Option<u
 }
 
 /// Why a byte is not coherent, or `None` where it is: the read happens before the source, or the least event that hides it.
-fn why(events: &[Event], before: &Rows, at: ByteRead, source: u8) -> Option<Option<u8>>
+pub(crate) fn why(events: &[Event], before: &Rows, at: ByteRead, source: u8) -> Option<Option<u8>>
     requires len { rows_len before.now ≡ length events.now }
     requires few { length events.now ≤ EVENT_LIMIT }
     requires read { at.read < length events.now }

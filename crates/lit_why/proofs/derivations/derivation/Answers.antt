@@ -14,7 +14,7 @@ returns-in_ok-only_used-in-Some-2 c =
     let lines = c.in-Some-2.lines.items in
     let used = c.in_ok-only_used-in-Some-2.field-0.items in
     let found = rw c.in-Some-2.is at c.in_ok-lines.ensures in
-    let derives = used_lines_derive (Holds c.happens_before-before.result) (Forbids c.between-between.result) lines used found.0 found.1 (rw c.as_slice.ensures.value at c.in_ok-only_used-in-Some-2.ensures) in
+    let derives = used_lines_derive (Holds c.happens_before-before.result) (Forbids c.between-between.result) lines used found.0 found.1 (rw c.as_slice.ensures.value at c.in_ok-only_used-in-Some-2.ensures) found.2 in
     IsDerivationBy-same (Holds c.happens_before-before.result) (HappensBefore events part.sources) (Forbids c.between-between.result) (IsForbidden events part.sources)
     c.happens_before-before.ensures.pairs c.between-between.ensures.triples used derives
 

@@ -73,10 +73,13 @@ add-requires t c =
     ) in (
       subst (λ (n : ℕ). length (byte_reads (events_on p)) - (place + 1) < n) c.decreases (omega (arith, inside)),
       (
-        next_node c.laws_below.ensures box c.args.class place inside room c.loop-source.left c.in-Some.others c.with.result
-            c.in-Some.source
-            c.in-Some.ensures c.loop-source.invariant.left only c.requires.node,
-        c.loop-source.invariant.adds.few,
+        c.requires.plan,
+        (
+          next_node c.laws_below.ensures box c.args.class place inside room c.loop-source.left c.in-Some.others c.with.result
+              c.in-Some.source
+              c.in-Some.ensures c.loop-source.invariant.left only c.requires.node,
+          c.loop-source.invariant.adds.few,
+        ),
       ),
     )
 

@@ -1,14 +1,15 @@
-use Rattle.std.proofs.Common.{ℕ, ◌<◌, ◌↔◌, ◌≡◌, get_or, List, subst, sym, ◌∙◌, not}
+use Rattle.std.proofs.Common.{ℕ, ◌<◌, ◌↔◌, ◌≡◌, Bool, ap, get_or, List, subst, sym, ◌∙◌, not}
 use Rattle.std.specs.Prelude.{IsTrue}
 use Rattle.std.proofs.lemmas.Bool.{false≢true}
 use Rattle.lit_paths.specs.declared.byte_reads.ByteRead.{ByteRead}
 use Rattle.lit_paths.specs.declared.event.Event.{Event}
 use Rattle.lit_paths.specs.ByteReads.{IsCandidate, byte_read_at, pair_of}
-use Rattle.lit_paths.specs.Event.{event_at, payload_at}
 use Rattle.lit_rel.specs.EventSet.{HasEvent}
 use Rattle.lit_solve.specs.Box.{events_on}
 use Rattle.lit_solve.specs.Prunable.{IsRefusedOn}
 use Rattle.lit_solve.proofs.PruningLemmas.{read_known, read_listed, read_there}
+use Rattle.lit_why.specs.Asked.{is_asked}
+use Rattle.lit_why.specs.Attempts.{agree}
 use Rattle.lit_why.specs.Internal.Trials.{IsRepresentative}
 use Rattle.lit_why.proofs.RepresentativeLemmas.{unless_before}
 use Rattle.lit_why.proofs.representatives.is_representative.Goals as goal
@@ -46,5 +47,7 @@ returns c =
     (subst (λ (q : ℕ × ℕ). (w : ℕ) → HasEvent c.args.candidates w ↔ IsCandidate events q.0 q.1 w) (sym same) c.requires.exact)
     c.requires.there (λ is. false≢true (sym c.if-is_source_refused.false ∙ c.is_source_refused.ensures.1 is))
     (subst (λ (es : List Event). IsTrue c.is_stored_before.result ↔ ((v : ℕ) × HasEvent c.args.candidates v × (v < c.args.source)
-    × (payload_at (event_at es v) at.byte ≡ payload_at (event_at es c.args.source) at.byte))) c.events-events.ensures.value
-    c.is_stored_before.ensures))
+    × IsTrue (agree (is_asked p.0 p.1 at.read) es at.byte v c.args.source))) c.events-events.ensures.value
+    (subst (λ (asked : Bool). IsTrue c.is_stored_before.result ↔ ((v : ℕ) × HasEvent c.args.candidates v × (v < c.args.source)
+    × IsTrue (agree asked c.events-events.result.now at.byte v c.args.source)))
+    (c.asks-asked.ensures ∙ ap (λ (r : ℕ). is_asked p.0 p.1 r) c.from.ensures) c.is_stored_before.ensures)))

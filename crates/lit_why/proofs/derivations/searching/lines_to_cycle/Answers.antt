@@ -1,4 +1,4 @@
-use Rattle.std.proofs.Common.{◌≡◌, ℕ, ◌++◌, ◌∷◌, [], List, length, refl, ◌∙◌, arith, inl, inr}
+use Rattle.std.proofs.Common.{◌≡◌, ℕ, ◌++◌, ◌∷◌, [], List, length, refl, subst, ◌∙◌, arith, inl, inr}
 use Rattle.std.proofs.lemmas.Bool.{true≢false}
 use Rattle.lit_order.proofs.RowsLemmas.{pairs_missing, pairs_missing-lt}
 use Rattle.lit_rel.specs.Between.{Forbids}
@@ -6,7 +6,7 @@ use Rattle.lit_rel.specs.Rows.{Holds, rows_len}
 use Rattle.lit_why.specs.declared.derivations.lines.DerivationLine.{DerivationLine}
 use Rattle.lit_why.specs.Derivation.{EachFollows}
 use Rattle.lit_why.specs.Internal.Deriving.{IsNewLine, NoPair}
-use Rattle.lit_why.proofs.DerivationLemmas.{EachFollows-given, EachFollows-more, EndsInCycle-last, Follows-wider, HasForced-from_old, HasLines-more, forced_within, no_cycle_more, two_less}
+use Rattle.lit_why.proofs.DerivationLemmas.{EachFollows-given, EachFollows-more, EndsInCycle-last, Follows-wider, HasForced-from_old, HasLines-more, forced_within, no_cycle_more, once_more, only_more, two_less}
 use Rattle.lit_why.proofs.derivations.searching.lines_to_cycle.Goals as goal
 
 pub iterations-init : goal.iterations-init
@@ -15,6 +15,11 @@ iterations-init c = record {
   old_len = refl;
   follows = EachFollows-given (Holds c.args.before.now) (Forbids c.args.between.now) c.in_ok-lines.lines.items c.in_ok-lines.ensures.0;
   lines = c.in_ok-lines.ensures.1;
+  once = c.in_ok-lines.ensures.2;
+  only = λ e d h.
+      let given = c.in_ok-lines.ensures.0 h.0 h.1.line h.1.at_place in
+      subst (λ (x : ℕ). Holds c.args.before.now x d) h.1.first
+      (subst (λ (y : ℕ). Holds c.args.before.now h.1.line.before y) h.1.second given.has);
   given = λ e d h. h;
   older = λ e d h. h;
   same = λ _ e d h. h;
@@ -37,7 +42,12 @@ returns-then-line c =
     let line : DerivationLine = c.in-Some.line in
     let each = follows_now (Holds c.args.before.now) (Forbids c.args.between.now) (rows_len c.iterations.old) (Holds c.iterations.known) lines c.as_slice.result.now line
     c.as_slice.ensures.value c.iterations.invariant.follows c.in-Some.ensures in
-    rw c.in_ok-push-in-Some.ensures.items (each, EndsInCycle-last lines line c.if-line.true)
+    rw c.in_ok-push-in-Some.ensures.items (
+      each,
+      EndsInCycle-last lines line c.if-line.true,
+      once_more lines line c.iterations.invariant.once
+          (λ h. c.in-Some.ensures.new (c.iterations.invariant.only line.before line.after h)),
+    )
 
 pub put-requires-clause-first : goal.put-requires-clause-first
 put-requires-clause-first c = let new = c.in-Some.ensures in let so_far = c.iterations.invariant in omega (arith, new.first, c.from.ensures, so_far.known_len, so_far.old_len)
@@ -67,6 +77,12 @@ iterations-preserved-in-Some c =
       old_len = so_far.old_len;
       follows = rw c.in_ok-push-in-Some.ensures.items each;
       lines = rw c.in_ok-push-in-Some.ensures.items (HasLines-more lines line (Holds c.iterations.known) (Holds c.put.new.self) so_far.lines put);
+      once = rw c.in_ok-push-in-Some.ensures.items (once_more lines line so_far.once
+          (λ h. c.in-Some.ensures.new (so_far.only line.before line.after h)));
+      only = rw c.in_ok-push-in-Some.ensures.items (λ e d h. (put e d).1 (elim (only_more lines line e d h) [
+        | inl old ↦ inl (so_far.only e d old)
+        | inr new ↦ inr new
+      ]));
       given = λ e d h. (put e d).1 (inl (so_far.given e d h));
       older = λ e d h. (put e d).1 (inl (so_far.older e d h));
       same = λ h. absurd (true≢false h);

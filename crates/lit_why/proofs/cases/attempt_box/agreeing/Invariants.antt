@@ -1,0 +1,15 @@
+use Rattle.std.proofs.Common.{◌↔◌, ℕ}
+use Rattle.std.specs.Prelude.{IsTrue}
+use Rattle.lit_rel.specs.EventSet.{HasEvent}
+use Rattle.lit_why.specs.Attempts.{agree}
+use Rattle.lit_why.proofs.cases.attempt_box.agreeing.Given as goal
+
+abbrev pub invariant-loop-event : goal.invariant-loop-event
+invariant-loop-event l = record {
+  left : (v : ℕ) → HasEvent l.left v → HasEvent l.fn.among v;
+  agreeing : (v : ℕ) → HasEvent l.agreeing v
+      ↔ (HasEvent l.fn.among v × IsTrue (agree l.asked l.events l.byte l.source v) × ¬ HasEvent l.left v);
+}
+
+abbrev pub decreases-loop-event : goal.decreases-loop-event
+decreases-loop-event l = l.left.bits
