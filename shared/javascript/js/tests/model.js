@@ -77,6 +77,7 @@ class Execution {
     for (const { read, from } of reads) if (sw(from, read)) hb[from][read] = true;
     for (let k = 0; k < count; k += 1) for (let i = 0; i < count; i += 1) if (hb[i][k]) for (let j = 0; j < count; j += 1) if (
       hb[k][j]) hb[i][j] = true;
+    this.hb = hb;
     if (events.some((_, i) => hb[i][i])) return false;
     for (const { read, byte, from } of reads) {
       if (hb[read][from]) return false;
@@ -108,10 +109,24 @@ class Execution {
     return false;
   }
 
-  someIsValid() {
+  // Whether sources that are valid have two accesses in a data race, by the happens-before of the last look at them.
+  isRacing(sources) {
+    const { events, hb } = this;
+    const isFrom = (r, w) => this.byteReads.some(({ number }, place) => number === r && sources[place] === w);
+    const share = (a, b) => a.block === b.block && a.first < b.first + b.size && b.first < a.first + a.size;
+    return events.some((a, i) => events.some((b, j) => i < j && !hb[i][j] && !hb[j][i]
+      && ((a.written !== null && b.written !== null && share(a, b)) || isFrom(i, j) || isFrom(j, i))
+      && !(a.sc && b.sc && (isSame(a, b) || !share(a, b)))));
+  }
+
+  some(holds) {
     const lists = this.byteReads.map((each) => this.candidates(each));
-    for (const sources of products(lists)) if (this.isValid(sources)) return true;
+    for (const sources of products(lists)) if (this.isValid(sources) && holds(sources)) return true;
     return false;
+  }
+
+  someIsValid() {
+    return this.some(() => true);
   }
 }
 
@@ -125,4 +140,13 @@ function outcomesOf(runs, domain, initial, tell, most = 6) {
   return found;
 }
 
-module.exports = { keyOf, outcomesOf };
+// Whether some execution that the model allows has a data race.
+function hasRace(runs, domain, initial, most = 6) {
+  for (const ways of products(runs.map((run) => waysOf(run, domain, most)))) {
+    const execution = new Execution(ways, initial);
+    if (execution.some((sources) => execution.isRacing(sources))) return true;
+  }
+  return false;
+}
+
+module.exports = { hasRace, keyOf, outcomesOf };

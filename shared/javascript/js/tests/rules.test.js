@@ -5,18 +5,20 @@
 const test = require('node:test');
 const assert = require('node:assert');
 const { agentsOf, answered, tellOf, textsOf } = require('./asking.js');
-const { outcomesOf } = require('./model.js');
+const { hasRace, outcomesOf } = require('./model.js');
 
 const HEAD = 'const sab = new SharedArrayBuffer(16); const b = new Uint8Array(sab), w = new Uint16Array(sab), i = new Int32Array(sab), s = new Int8Array(sab), d = new DataView(sab);\n';
 const values = (...list) => (event) => (event.op === 'choice' ? Array.from({ length: event.count }, (_, place) => place) : list);
 
-// Whether the answer has just the outcomes that the model allows where reads have these values, in each byte of their ranges.
+// Whether the answer has just the outcomes that the model allows where reads have these values, in each byte of their ranges; and,
+// apart from these, whether a data race that is told is one of the model's.
 async function same(body, list, setup = '', allTurns = false) {
   const source = `${HEAD}${setup}\nagents({ ${body} });`;
   const answer = await answered(source);
   const agents = agentsOf(source, allTurns);
   const wanted = outcomesOf(agents.runs, values(...list), agents.setting.initial, tellOf(agents.names), allTurns ? 4 : 8);
   assert.deepEqual([...textsOf(answer)].sort(), [...wanted].sort());
+  if (answer.race) assert.ok(hasRace(agents.runs, values(...list), agents.setting.initial, allTurns ? 4 : 8), `no data race is in ${body}`);
   return answer;
 }
 
@@ -58,6 +60,15 @@ test('a word as one byte: values that differ from the initial one in one byte', 
   await same('A() { i[0] = 1; }, B() { i[0] = 2; return i[0]; }', [0, 1, 2]);
   await same('A() { w[0] = 0x0105; }, B() { w[0] = 0x0205; return w[0]; }', [5, 0x0105, 0x0205], 'w[0] = 5;');
   await same('A() { d.setUint16(0, 1, true); }, B() { return d.getUint16(0, true); }, C() { d.setUint16(0, 2, true); }', [0, 1, 2]);
+});
+
+test('a word as one byte: its data races are a claim apart', async () => {
+  const raced = await same('A() { i[0] = 1; }, B() { i[0] = 2; }, C() { return i[0]; }', [0, 1, 2]);
+  assert.equal(raced.race, true);
+  const ordered = await same('A() { i[0] = 1; Atomics.store(b, 8, 1); }, B() { return Atomics.load(b, 8) === 1 ? i[0] : -1; }', [0, 1]);
+  assert.equal(ordered.race, false);
+  const atomic = await same('A() { Atomics.store(w, 0, 0x0102); }, B() { return Atomics.load(w, 0); }', [0, 0x0102]);
+  assert.equal(atomic.race, false);
 });
 
 test('a word as one byte: atomics alone, numbered', async () => {
