@@ -45,14 +45,26 @@ class Running:
         if self.stopped_by:
             raise Stopped(self.stopped_by)
 
-    def stop(self, number, _):
-        """The handler of a signal."""
+    def stop(self, number):
+        """Ends all runs, and lets none begin."""
         with self.lock:
             self.stopped_by = number
             for run in self.runs:
                 run.kill()
+
+    def handle(self, number, _):
+        """The handler of a signal, in the main thread."""
+        with self.lock:
+            self.stop(number)
             if not self.starting:
                 raise Stopped(number)
+
+    def watch(self, stream):
+        """Ends all runs at once where a signal comes. The main thread may have begun to wait for one just then, and would look for the
+        signal when that is over alone."""
+        while numbers := os.read(stream, PIECE):
+            for number in numbers:
+                self.stop(number)
 
 
 RUNNING = Running()
@@ -60,9 +72,16 @@ RUNNING = Running()
 
 def watch_signals():
     """From now on a signal that would end this process ends its programs too. One that the caller ignores stays ignored."""
+    stream, end = os.pipe()
+    os.set_blocking(end, False)
+    signal.set_wakeup_fd(end, warn_on_full_buffer=False)
+    try:
+        threading.Thread(target=RUNNING.watch, args=(stream,), daemon=True).start()
+    except RuntimeError:
+        pass  # the system refuses a thread: then the handler alone looks
     for number in SIGNALS:
         if signal.getsignal(number) != signal.SIG_IGN:
-            signal.signal(number, RUNNING.stop)
+            signal.signal(number, RUNNING.handle)
 
 
 def end_by(number):
