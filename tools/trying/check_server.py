@@ -30,7 +30,7 @@ def cases(program):
 
     return ([(f"server, {case.__name__}", on(case, lambda: served(program))) for case in PROVED] +
             [(f"server, {case.__name__}", on(case, feigned)) for case in FEIGNED] +
-            [("server, refused_threads", on(refused_threads, functools.partial(feigned, REFUSED))),
+            [("server, refused_threads", on(refused_threads, functools.partial(feigned, REFUSED + 1))),
              ("server, ended_amid_runs", ended_amid_runs)])
 
 
@@ -262,7 +262,7 @@ REFUSED = 200
 
 
 def refused_threads(server):
-    """More threads are refused than there are places; then there is room as ever."""
+    """More threads are refused than there are places, and first the one that watches for signals; then there is room as ever."""
     for _ in range(REFUSED):
         assert not server_answers(server)
     hundred_answered(server)
