@@ -208,7 +208,7 @@ class Check:
     def room(self):
         with self.tally.lock:
             self.count += 1
-        return self.work / str(self.count)
+            return self.work / str(self.count)
 
     def fresh(self, is_built=True):
         """A new repository, built or not."""
