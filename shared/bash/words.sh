@@ -80,9 +80,8 @@ answer_words() {
     case $answer in
         help) printf '%s\n' "${help[@]}" && end_with 0 || end_with 0 ;;
         version)
-            source=$(<"$top/crates/lit_words/src/version.rt")
-            [[ $source =~ \"([0-9.]+)$'\n'(.*)\"\; ]] || fail "the version can't be read"
-            printf '%s %s\n%s\n' "$name" "${BASH_REMATCH[@]:1}"
+            source=$(<"$top/docs/help/version.txt") || fail "the version can't be read"
+            printf '%s %s\n' "$name" "$source"
             echo "$name: it isn't proved and built here yet: that is done when it is first given a text" >&2
             end_with 0 ;;
         unread) echo input_failed >&2 && end_with 4 || end_with 4 ;;

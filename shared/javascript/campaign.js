@@ -5,7 +5,8 @@ const crypto = require('crypto');
 const fs = require('fs');
 const os = require('os');
 const path = require('path');
-const { Allowed, Failure, isStopping, makeFolder, readText, testAndReport, useProgram } = require('./command.js');
+const { Allowed, testAndReport, useProgram } = require('./allowed.js');
+const { Failure, isStopping, makeFolder, readText } = require('./command.js');
 const { LIMITS, runEngine } = require('./engine.js');
 const { keep } = require('./keep.js');
 const { Fault, plain } = require('./lines.js');
@@ -145,7 +146,7 @@ class Campaign {
     };
     if (failure !== null) made.said = failure;
     if (result !== 'failed' && result !== 'not allowed') return made;
-    if (outside.length > 0) made.why = await reasonsOf(test, allowed.registers, outside, file);
+    if (outside.length > 0) made.why = await reasonsOf(allowed.registers, outside, file);
     made.again = this.again(file, engine);
     if (this.words.keep !== null) this.keep(made, run, { program, file, end });
     return made;

@@ -1,7 +1,7 @@
 'use strict';
 // A test as JavaScript: the function of an agent, and the condition.
 
-const { accessesOf, registersOf } = require('./litmus.js');
+const { accessesOf, isIf, registersOf } = require('./text/tests.js');
 
 // Where an element or byte stands: from `base`, the copy's first byte, or `half` and `word`, the same in elements.
 const BASES = { U8: 'base', U16: 'half', U32: 'word', DV: 'base' };
@@ -20,19 +20,18 @@ function accessCode({ kind, atomic, view, bits, place, values }) {
 // The lines of statements, each with `indent` before it.
 function statementLines(statements, indent) {
   return statements.flatMap((statement) => {
-    if (statement.kind) {
-      return [`${indent}${statement.register ? `${statement.register} = ` : ''}${accessCode(statement)};`];
-    }
-    const { register, equal, number, body, other } = statement;
-    const lines = [`${indent}if (${register} ${equal ? '===' : '!=='} ${number}) {`, ...statementLines(body, `${indent}  `)];
+    const { register } = statement;
+    if (!isIf(statement)) return [`${indent}${register === null ? '' : `r${register} = `}${accessCode(statement)};`];
+    const { equal, number, body, other } = statement;
+    const lines = [`${indent}if (r${register} ${equal ? '===' : '!=='} ${number}) {`, ...statementLines(body, `${indent}  `)];
     if (other.length) lines.push(`${indent}} else {`, ...statementLines(other, `${indent}  `));
     return [...lines, `${indent}}`];
   });
 }
 
 const namedIn = (statements) => statements.flatMap((statement) => [
-  ...(statement.register ? [statement.register] : []),
-  ...(statement.kind ? [] : [...namedIn(statement.body), ...namedIn(statement.other)])]);
+  ...(statement.register === null ? [] : [`r${statement.register}`]),
+  ...(isIf(statement) ? [...namedIn(statement.body), ...namedIn(statement.other)] : [])]);
 
 // The function that carries out one copy of an agent's statements, and puts its registers where `place` says.
 function agentCode(test, agent) {
@@ -40,7 +39,7 @@ function agentCode(test, agent) {
   const views = new Set(accessesOf(statements).map(({ view }) => view));
   const registers = [...new Set(namedIn(statements))].sort();
   const results = registersOf(test).flatMap(([owner, register], place) => (
-    owner === agent ? [`  out[place + ${place}] = ${register};`] : []));
+    owner === agent ? [`  out[place + ${place}] = r${register};`] : []));
   return ['function copy(U8, U16, U32, DV, base, out, place) {',
     ...(views.has('U16') ? ['  const half = base >> 1;'] : []),
     ...(views.has('U32') ? ['  const word = base >> 2;'] : []),

@@ -1,6 +1,8 @@
 'use strict';
 // The command jslit-engine; README.md describes it.
 
+const path = require('path');
+const { spawnSync } = require('child_process');
 const { isStopping, run } = require('./command.js');
 const { Campaign } = require('./campaign.js');
 const { Log } = require('./campaign_log.js');
@@ -11,8 +13,19 @@ const { engineOf, machineOf } = require('./identity.js');
 const { lineOf } = require('./record.js');
 
 const ORDER = [1, 70, 4, 3, 5, 0];
+const RUNS = '2000';   // of a file of JavaScript
+
+// A file of JavaScript runs as it is, by jslit-js.
+function ofJavascript(given) {
+  const isAlone = given.length === 1 || (given.length === 3 && given[0] === '--program');
+  if (!isAlone || !given[given.length - 1].endsWith('.js')) return null;
+  const { status } = spawnSync(path.join(__dirname, '..', '..', 'bin', 'jslit-js'), ['--run', RUNS, ...given], { stdio: 'inherit' });
+  return status ?? 70;
+}
 
 async function main(given) {
+  const status = ofJavascript(given);
+  if (status !== null) return status;
   const words = asked(given);
   if (words.help) return process.stdout.write(USAGE) && 0;
   const log = new Log(words.log);

@@ -1,19 +1,18 @@
 'use strict';
 // What jslit-engine prints of runs.
 
-const { Allowed, grouped } = require('./command.js');
+const { Allowed } = require('./allowed.js');
+const { conditionCode } = require('./code.js');
+const { grouped } = require('./command.js');
 const { plain } = require('./lines.js');
-const { meets } = require('./litmus.js');
 const { RESULTS } = require('./record.js');
 
 const SHOWN = 8;   // lines of an engine's standard error
 
 // A line of an outcome, as often as it was seen.
-function outcomeLine(registers, { values, times }, condition, mark) {
-  const places = new Map(registers.map((register, place) => [register, place]));
-  const meeting = condition && meets(condition, (agent, register) => values[places.get(`${agent}.${register}`)]);
+function outcomeLine(registers, { values, times }, meets, mark) {
   const outcome = registers.map((register, place) => `${register}=${values[place]}`).join(' ');
-  return `${grouped(times).padStart(13)}  ${outcome}${meeting ? '  meets the condition' : ''}${mark}\n`;
+  return `${grouped(times).padStart(13)}  ${outcome}${meets(values) ? '  meets the condition' : ''}${mark}\n`;
 }
 
 const linesOf = (text) => text.split('\n').filter(Boolean).slice(0, SHOWN).map((line) => line.slice(0, 200));
@@ -34,10 +33,11 @@ function histogram({ told: { test, allowed }, run: done }, seenAlone) {
   const times = new Map(done.seen.map((entry) => [Allowed.key(entry.values), entry.times]));
   const entries = allowed.outcomes.map((values) => ({ values, times: times.get(Allowed.key(values)) ?? 0 }));
   const kept = entries.filter((entry) => !seenAlone || entry.times > 0);
+  const meets = new Function('seen', `return ${conditionCode(test)};`);
   return [`test ${done.test} on ${plain(done.engine)}: ${grouped(done.copies)} copies in ${done.seconds} seconds, ${inStep(done)}\n`,
     `${loaded(done.load)}\n`,
-    ...kept.map((entry) => outcomeLine(allowed.registers, entry, test.condition, '')),
-    ...done.not_allowed.map((entry) => outcomeLine(allowed.registers, entry, test.condition, '  NOT ALLOWED')),
+    ...kept.map((entry) => outcomeLine(allowed.registers, entry, meets, '')),
+    ...done.not_allowed.map((entry) => outcomeLine(allowed.registers, entry, meets, '  NOT ALLOWED')),
     `outcomes ${done.outcomes}, seen ${done.seen.length}, not allowed ${done.not_allowed.length}\n`,
     ...(done.result === 'not enough' ? [`not enough: ${grouped(done.settings.in_step)} copies should be in step\n`] : []),
     ...(done.said === undefined ? [] : [`FAILED: ${done.said}\n`]),
@@ -50,7 +50,7 @@ function brief({ run: done, known }) {
   const said = [done.said === undefined ? null : plain(done.said), seen].filter((part) => part !== null).join(', ');
   const before = done.failed_before > 0 ? ', failed before' : '';
   const lines = [`${plain(done.file)} on ${plain(done.engine)}: ${done.result}, ${said}${before}${known ? ' (of the log)' : ''}\n`];
-  for (const entry of done.not_allowed ?? []) lines.push(outcomeLine(done.registers, entry, null, '  NOT ALLOWED'));
+  for (const entry of done.not_allowed ?? []) lines.push(outcomeLine(done.registers, entry, () => false, '  NOT ALLOWED'));
   return [...lines, ...details(done)].join('');
 }
 

@@ -18,7 +18,8 @@ lines go to FILE too, and what was tried by those that stand there is not run ag
 What is allowed is what PROGRAM reports, by default jslit, or what stands in the report of --report. An engine fails that
 ends otherwise than by itself with status 0, that prints words of a sanitizer, an assertion or a fatal error, whose
 tallies don't add up, or that meets a limit; it is ended then, with all that it started. A run that went wrong is printed
-with the command that repeats it.
+with the command that repeats it. A file of JavaScript, FILE.js alone, is run as it is, 2,000 times on workers of Node, beside
+the outcomes that jslit-js tells.
 
 Options:
   --engine COMMAND   an engine, with words of its own as a shell takes them; may be given again [default: node]

@@ -80,6 +80,9 @@ async function inputs({ backward, lines, files }, writer) {
     try {
       await act(fs.createReadStream(file), writer, file);
     } catch (error) {
+      if (error instanceof Fault && /^line [12] of the report/.test(error.message)) {
+        error.message += `; of a text jslit makes one: jslit ${file} | jslit-json`;
+      }
       if (error instanceof Fault && files.length > 1) error.message = `${file}: ${error.message}`;
       throw error;
     }

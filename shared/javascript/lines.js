@@ -5,8 +5,16 @@ const LONGEST_LINE = 65536;
 
 class Fault extends Error {}
 
-// A text as a terminal may be given it, on one line: control characters stand as numbers.
-const plain = (text) => String(text).replace(/[\x00-\x1f\x7f-\x9f]/g, (sign) => `\\x${sign.charCodeAt(0).toString(16).padStart(2, '0')}`);
+// A text as a terminal may be given it, on one line: control characters stand as numbers, and bytes that are no UTF-8 (words.js).
+const plain = (text) => String(text).replace(/[\x00-\x1f\x7f-\x9f\udc80-\udcff]/g, (sign) => (
+  `\\x${(sign.charCodeAt(0) & 255).toString(16).padStart(2, '0')}`));
+
+// What the system says of a call that failed, as Node's errors have it between a code and a call.
+function messageOf({ code, message }) {
+  const [, said] = /^[A-Z0-9]+: (.*?)(?:, [a-z]+(?: '.*)?)?$/s.exec(message) ?? [];
+  if (code === 'EISDIR') return 'Is a directory';
+  return code === undefined || said === undefined ? message : said[0].toUpperCase() + said.slice(1);
+}
 
 // Gives each line of a stream to `take`, without the byte 10 that ends it, and waits where `take` gives a promise.
 async function eachLine(stream, take) {
@@ -53,4 +61,4 @@ class Writer {
   }
 }
 
-module.exports = { Fault, Writer, eachLine, plain };
+module.exports = { Fault, Writer, eachLine, messageOf, plain };

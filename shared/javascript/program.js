@@ -4,7 +4,7 @@
 const fs = require('fs');
 const path = require('path');
 const { agentCode, mixesSizes } = require('./code.js');
-const { registersOf } = require('./litmus.js');
+const { registersOf } = require('./text/tests.js');
 
 const part = (name) => fs.readFileSync(path.join(__dirname, name), 'utf8');
 

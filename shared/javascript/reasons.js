@@ -27,7 +27,7 @@ async function askWhy(condition, file) {
 }
 
 // Lines on the first of these outcomes, each with its condition in place of the test's name.
-async function reasonsOf(test, registers, outside, file) {
+async function reasonsOf(registers, outside, file) {
   if (!BUILT.some((program) => fs.existsSync(program))) return [];
   const lines = [];
   for (const { values } of outside.slice(0, MOST)) {

@@ -1,9 +1,10 @@
 'use strict';
 // The command jslit-test262; README.md describes it.
 
-const { Failure, JSLIT, grouped, oneFile, readWords, run, testAndReport } = require('./command.js');
+const { testAndReport } = require('./allowed.js');
+const { Failure, JSLIT, grouped, oneFile, readWords, run } = require('./command.js');
 const { agentCode, conditionCode, mixesSizes } = require('./code.js');
-const { accessesOf } = require('./litmus.js');
+const { accessesOf } = require('./text/tests.js');
 
 const USAGE = `jslit-test262 [--program PROGRAM] [--report FILE] FILE
 

@@ -2,7 +2,7 @@
 // What the agents of a run told, and whether the engine failed: any end but by itself with status 0, words of a sanitizer, an
 // assertion or a fatal error, and agents that told nothing, or what isn't so.
 
-const { Allowed } = require('./command.js');
+const { Allowed } = require('./allowed.js');
 const { plain } = require('./lines.js');
 
 const isCount = (number, most = Number.MAX_SAFE_INTEGER) => Number.isSafeInteger(number) && number >= 0 && number <= most;

@@ -1,10 +1,9 @@
 'use strict';
-// The version, as the program's own sources have it.
+// The version, as the program prints it.
 
 const fs = require('fs');
 const path = require('path');
 
-const FILE = path.resolve(__dirname, '..', '..', 'crates', 'lit_words', 'src', 'version.rt');
-const [, VERSION] = /"([0-9]+\.[0-9]+\.[0-9]+)\n/.exec(fs.readFileSync(FILE, 'latin1'));
+const [VERSION] = fs.readFileSync(path.resolve(__dirname, '..', '..', 'docs', 'help', 'version.txt'), 'latin1').split('\n');
 
 module.exports = { VERSION };

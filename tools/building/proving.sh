@@ -8,7 +8,7 @@
 
 # How many seconds each crate of the longest chain was seen to take by four processors from nothing.
 declare -gA seconds_of=([lit_syntax]=17 [lit_paths]=48 [lit_rel]=69 [lit_order]=32 [lit_valid]=8 [lit_solve]=134 [lit_search]=60
-    [lit_share]=86 [jslit]=58 [jslit_cli]=58 [lit_why]=265 [jslit_why]=58)
+    [lit_share]=86 [jslit]=58 [jslit_cli]=58 [lit_why]=265 [lit_reason]=58)
 
 # How long it has taken.
 clock() { printf '%d min %02d s' $((SECONDS / 60)) $((SECONDS % 60)); }

@@ -15,10 +15,11 @@ COMMANDS = {
     "jslit-json": "reports of jslit as JSON, and back",
     "jslit-page": "litmus tests in a browser",
     "jslit-test262": "write a litmus test as a file of test262",
+    "jslit-text": "what a litmus text says, as JSON",
     "jslit-why": "why no execution of a litmus test meets its condition",
 }
 # What is proved: by --version it prints the toolchain too.
-PROVED = ("jslit", "jslit-why")
+PROVED = ("jslit", "jslit-text", "jslit-why")
 # What a value is called that is a file's name.
 FILES = ("FILE", "PROGRAM", "FOLDER")
 OPTION = re.compile(r"^ +(?:-\w, )?(--[a-z-]+)(?: <?([A-Z]+)>?)?", re.M)

@@ -12,7 +12,7 @@ import shutil
 import stat
 
 from litmus.ends import shown
-from litmus.text import Fault
+from litmus.fault import Fault
 
 TREE = pathlib.PurePath("lib/jslit")
 LIST = TREE / "installed.json"

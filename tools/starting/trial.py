@@ -23,7 +23,7 @@ OTHERS = {
 }
 # The scripts that are tried, with the files that they read.
 SCRIPTS = ("bin/jslit", "tools/build-program", "tools/building/proving.sh", "tools/building/sources.sh", "shared/bash/own.sh", "shared/bash/start.sh",
-           "shared/bash/words.sh", "docs/help/jslit.txt", "crates/lit_words/src/version.rt")
+           "shared/bash/words.sh", "docs/help/jslit.txt", "docs/help/version.txt")
 # What is said of a fault, and not of how far the build is. Right before it may stand what a command began to say that was
 # given up, as in `find: cannot forkjslit: ..`.
 FAULT = re.compile(r"jslit: (?!proving |\d+ of \d+: |another start |built )")

@@ -45,7 +45,7 @@ LINES = [
     (3, "agent A:", ":", "write: agent A"),
     (3, "agent A {", "{", "write: agent A"),
     (3, "agent A { U8[0] = 1 }", "{", "an agent's line ends with its name, and each statement stands on a line of its own"),
-    (3, "agent 0", "0", "write: agent _0"),
+    (3, "agent 0", "0", "write: agent P0"),
     (3, "agent", "", "write: agent A"),
     (3, "thread A", "thread", "write: agent A"),
     (3, "worker A:", "worker", "write: agent A"),
@@ -93,10 +93,10 @@ LINES = [
     (4, "[x] = 1", "[", "byte n is `U8[n]`"),
     (4, "U8[-1] = 1", "-", "an index counts from 0"),
     (4, "for (let i = 0; i < 3; i++) {", "for", "there are no loops"),
-    (5, "r0 = mem[1]", "mem", "write: r0 = U8[1]"),
+    (5, "r0 = mem[1]", "mem", "where `mem` is one of these, write that"),
     (5, "flag = U8[1]", "flag", "write: r0 = U8[1]"),
     (4, "U8[0] = Atomics.load(U8, 1)", "Atomics", "first `r2 = Atomics.load(U8, 1)`, and then for each value an `if` with a store of it"),
-    (4, "ta[0] = 1", "ta", "write: U8[0] = 1"),
+    (4, "ta[0] = 1", "ta", "where `ta` is one of these, write that"),
     (5, "r0 = Atomics.load(0)", "0", "write: r0 = Atomics.load(U8, 0)"),
     (5, "print r0", "print", "nothing is printed"),
     (5, "let r0 = U8[1]", "let", "write: r0 = U8[1]"),
@@ -148,7 +148,7 @@ LINES = [
     (10, "Atomics.exchange(U8, 1, 1)", "exchange", "write: r1 = Atomics.exchange(U8, 1, 1)"),
     (10, "Atomics.store(U8, 1, Atomics.load(U8, 0))", "Atomics",
      "first `r1 = Atomics.load(U8, 0)`, and then for each value an `if` with a store of it"),
-    (10, "Atomics.store(ta, 1, 1)", "ta", "write: Atomics.store(U8, 1, 1)"),
+    (10, "Atomics.store(ta, 1, 1)", "ta", "where `ta` is one of these, write that"),
     (10, "flag = Atomics.load(U8, 1)", "flag", "write: r1 = Atomics.load(U8, 1)"),
     (10, "r9 = Atomics.load(U8, 1)", "r9", "write: r1 = Atomics.load(U8, 1)"),
     (10, "r0 = U64[0]", "U64", "there are no floating and no 64-bit arrays"),
@@ -180,6 +180,16 @@ LINES = [
     (12, "check A.r5 == 0", "r5", "agent A writes only r0, r1"),
     (12, "check A.r0 == 0\ncheck B.r0 == 0", "check", "the check on line 12 is the last line"),
     (12, "check " + "!" * 9 + "A.r0 == 0", "check", "at most 8 `!` and `(`"),
+    # Slips that look like others.
+    (5, "r0 = Atomics.laod(U8, 1)", "laod", "write: r0 = Atomics.load(U8, 1)"),
+    (5, "r0 = Atomics.or(U8, 1, 4)", "or", "`r0 = Atomics.compareExchange(U8, 1, n, n | 4)` with the numbers put in does it"),
+    (4, "Atomics.isLockFree(4)", "isLockFree", "there is no Atomics.isLockFree: it accesses nothing, so leave it out"),
+    (4, "init U8[0] = 5", "init", "memory begins as 0: a first value is stored by an agent"),
+    (4, "U8[0] = 1 U8[1] = 2", "U8[1]", "write: U8[0] = 1"),
+    (5, "r0 = (wr + 1) % 2", "(", "there is no arithmetic: the values stored and compared are plain numbers"),
+    (4, "agnet C", "agnet", "write: agent C"),
+    (12, "check A.r0 == 0 => B.r0 == 0", "=", "there is no `=>`: `a => b` is `!(a) || b`"),
+    (12, "check 0:r0 == 1", "0", "write: check A.r0 == 1"),
     (12, "check A.r0" + " " * 60_000 + "x", "x", "`x` can't stand here: `==` or `!=` could"),
     (12, "check " + "U8[r0" * 12_000, "[", "`[` can't stand here"),
     (12, "// no question", "", "`check B.r0 == 0`, of the registers A.r0, A.r1, B.r0"),
@@ -225,15 +235,42 @@ agent consumer {
 }
 check flag === 1 && datum !== 42
 """
+# Two arrays: each has cells of its own.
+PASTED = """test mp
+bytes 8
+agent A
+data[0] = 42; Atomics.store(flag, 0, 1);
+agent B
+if (Atomics.load(flag, 0) === 1) {
+  r1 = data[0]
+}
+check B.r0 === 1 && B.r1 !== 42
+"""
 SEVERAL = [
+    # An if on a load, one with two comparisons, and `else if`: what is said has one end more.
+    ("test t\nbytes 4\nagent A\nif (U8[0] === 1) {\n} else if (r0 === 2) {\n}\n}\nif r0 == 1 && r0 != 3 {\n}\n}\nagent B { r0 = U8[1] }\ncheck A.r0 == 0\n",
+     [(4, "3 syntax", "       if r0 == 1 {"), (5, "3 syntax", "       if r0 == 2 {"), (8, "3 syntax", "       if r0 != 3 {"),
+      (11, "3 syntax", "       r0 = U8[1]")]),
+    # `}` and `else {` on two lines.
+    ("test t\nbytes 4\nagent A\nr0 = U8[0]\nif r0 == 1 {\nU8[1] = 1\n}\nelse {\nU8[1] = 2\n}\ncheck A.r0 == 0\n",
+     [(8, "3 syntax", "write: } else {")]),
+    (PASTED, [(4, "3 syntax", "       Atomics.store(U32, 1, 1) // flag: U32[1]"), (6, "3 syntax", "       if r0 == 1 {"),
+              (7, "3 syntax", "write: r1 = U32[0] // data: U32[0]"), (9, "3 syntax", "write: check B.r0 == 1 && B.r1 != 42")]),
+    # An index that is no number: where the elements stand can't be told, and nothing is written.
+    ("test t\nbytes 8\nagent A\ndata[i] = 1\nflag[0] = 1\nr0 = Atomics.load(U32, 0)\ncheck A.r0 == 0\n",
+     [(4, "3 syntax", "docs/FORMAT.md has the forms of a line, \"Forms of a line\""),
+      (5, "3 syntax", "where it is another array, give it elements that no other line has")]),
+    # A mark of bytes, and a blank that is none: what is behind them is as it would be without.
+    ("\ufefftest t\nbytes 1\nagent A\nr0\u00a0= U8[0]\ncheck A.r0 == 0\n",
+     [(1, "2 not_ascii", "write: test t"), (4, "2 not_ascii", "write: r0 = U8[0]")]),
     ("test mp\nbytes 8\nagent P\nU32[0] = 42\nAtomics.store(U32, 1, 1)\nagent C\nflag = Atomics.load(U32, 1)\nif flag == 1 {\n"
      "datum = U32[0]\n}\ncheck flag == 1 && datum != 42\n",
      [(7, "3 syntax", "write: r0 = Atomics.load(U32, 1)"), (8, "3 syntax", "write: if r0 == 1 {"), (9, "3 syntax", "write: r1 = U32[0]"),
       (11, "3 syntax", "write: check C.r0 == 1 && C.r1 != 42")]),
-    (SLOPPY, [(1, "3 syntax", "write: test mp"), (3, "3 syntax", "write: agent producer"), (4, "3 syntax", "write: U32[0] = 42"),
-              (5, "3 syntax", "write: Atomics.store(U32, 1, 1)"), (6, "4 misplaced", "write: nothing in its place"),
-              (7, "3 syntax", "write: agent consumer"), (8, "3 syntax", "write: r0 = Atomics.load(U32, 1)"),
-              (9, "3 syntax", "write: if r0 == 1 {"), (11, "3 syntax", "write: r1 = U32[0]"),
+    (SLOPPY, [(1, "3 syntax", "write: test mp"), (3, "3 syntax", "write: agent producer"), (4, "3 syntax", "write: U32[0] = 42 // ta[0]: U32[0]"),
+              (5, "3 syntax", "write: Atomics.store(U32, 1, 1) // ta[1]: U32[1]"), (6, "4 misplaced", "write: nothing in its place"),
+              (7, "3 syntax", "write: agent consumer"), (8, "3 syntax", "write: r0 = Atomics.load(U32, 1) // ta[1]: U32[1]"),
+              (9, "3 syntax", "write: if r0 == 1 {"), (11, "3 syntax", "write: r1 = U32[0] // ta[0]: U32[0]"),
               (13, "4 misplaced", "write: nothing in its place"), (14, "3 syntax", "write: check consumer.r0 == 1 && consumer.r1 != 42")]),
     # Two loads without a register, and one that stands: each gets its own.
     ("test t\nbytes 4\nagent A\nU8[0]\nAtomics.load(U8, 1)\nr0 = U8[2]\ncheck A.r0 == 0\n",
@@ -261,7 +298,7 @@ SEVERAL = [
      [(2, "2 not_ascii", "`\u00e9` (U+00E9) is no ASCII, and may not stand in a comment either"),
       (4, "2 not_ascii", "`\u00e9` (U+00E9) is no ASCII, and may not stand in a comment either"), (4, "3 syntax", "write: r0 = U8[0]")]),
     ("const sab = new SharedArrayBuffer(4);\nfoo;\nbar;\n",
-     [(1, "3 syntax", "this is JavaScript: keep the accesses alone, under an `agent` line for "
+     [(1, "3 syntax", "this is JavaScript: jslit-js takes it as it is; or keep the accesses alone, under an `agent` line for "
       "each worker, as in docs/FORMAT.md, \"From JavaScript\"")]),
     # No more than twelve.
     ("test t\nbytes 4\nagent A\n" + "r0 = U8[0];\n" * 20 + "check A.r0 == 0\n",

@@ -289,8 +289,8 @@ def faults(page):
     same(page.said("#take-all"), "Take these 8 lines")
     page.picture("faults")
     page.click("#take-all")
-    same(page.value("document.querySelector('#text').value"), "test t\nbytes 8\nagent A\nU32[0] = 1\n\nagent B\nr0 = Atomics.load(U32, 0)\n"
-         "if r0 == 1 {\n\nr1 = U32[1]\n}\ncheck B.r1 == 1\n")
+    same(page.value("document.querySelector('#text').value"), "test t\nbytes 8\nagent A\nU32[0] = 1 // ta[0]: U32[0]\n\nagent B\n"
+         "r0 = Atomics.load(U32, 0) // ta[0]: U32[0]\nif r0 == 1 {\n\nr1 = U32[1] // ta[1]: U32[1]\n}\ncheck B.r1 == 1\n")
     page.run()
     same(page.said("#verdict strong"), "t: verdict never")
     page.take("test t\nbytes 1\nagent A\nr0 = U8[0]\nif r0 == 1 {\nagent B\n}\ncheck A.r0 == 0;\n")
@@ -298,6 +298,23 @@ def faults(page):
     page.until("document.querySelector('#take-all')")
     page.click("#take-all")
     same(page.text(), "test t\nbytes 1\nagent A\nr0 = U8[0]\nif r0 == 1 {\n}\nagent B\n\ncheck A.r0 == 0\n")
+
+
+def pasted(page):
+    """Two arrays of JavaScript get cells of their own, and what stood there can be put back."""
+    given = ("test mp\nbytes 8\nagent A\ndata[0] = 42; Atomics.store(flag, 0, 1);\nagent B\nif (Atomics.load(flag, 0) === 1) {\n  r1 = data[0]\n}\n"
+             "check B.r0 === 1 && B.r1 !== 42\n")
+    page.take(given)
+    page.click("#run")
+    page.until("document.querySelector('#take-all')")
+    page.click("#take-all")
+    same(page.text(), "test mp\nbytes 8\nagent A\nU32[0] = 42 // data: U32[0]\nAtomics.store(U32, 1, 1) // flag: U32[1]\nagent B\n"
+         "r0 = Atomics.load(U32, 1) // flag: U32[1]\nif r0 == 1 {\nr1 = U32[0] // data: U32[0]\n}\ncheck B.r0 == 1 && B.r1 != 42\n")
+    page.run()
+    same(page.said("#verdict strong"), "mp: verdict never")
+    page.click("#put-back")
+    same(page.text(), given)
+    assert page.value("document.querySelector('#put-back').hidden"), "it is offered again"
 
 
 def noted(page):

@@ -12,10 +12,11 @@ import time
 
 from litmus.limits import TEXT
 from litmus.program import TOP
-from web.limits import PART, REQUEST, RUNS, SECONDS
+from web.limits import REQUEST, RUNS, SECONDS
 from trying.check_reasons import reasons
 from trying.serving import feigned, litmus, named, same, served
 
+PART = 1000  # outcomes of a report that an answer has
 FILES = ["/", "/base.css", "/page.css", "/document.css", "/page.js", "/ask.js", "/library", "/icon.svg",
          "/doc/README.md", "/doc/docs/FORMAT.md", "/doc/docs/sb.svg"]
 ABSENT = ["/index.html", "/../page", "/../../../../etc/passwd", "/%2e%2e/answer.py", "/page.js/../../answer.py", "//etc/passwd", "/page.js?x",

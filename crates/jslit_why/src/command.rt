@@ -1,174 +1,148 @@
-//! The words of the command line.
+//! The program: what it prints, and its status.
 
-use crate::selection::are_words;
+ghost use Rattle.std.specs.Prelude.{◌<◌, ◌^◌, ◌-◌};
+ghost use Rattle.lit_print.specs.Counted.{failures_of};
+
+use crate::line::{CommandLine, line};
+use clap::Error;
 use clap::error::ErrorKind;
-use clap::{Arg, ArgAction, ArgMatches, Command, Error, value_parser};
-use jslit::VERSION;
-use lit_paths::CHOICE_LIMIT;
-use std::alloc::{AllocError, Global};
+use jslit::{Counted, Options, RunFault, check};
+use lit_reason::{ReasonFault, explain};
+use lit_syntax::TEXT_LIMIT;
+use std::alloc::Global;
 use std::convert::AsStr;
+use std::io::{Read, Write};
+use std::rt::Files;
+use std::thread::Threads;
+use std::{fs, io};
 
-/// What the words ask for.
-#[derive(Clone, Copy, Debug, PartialEq, Eq)]
-pub(crate) struct CommandLine<'a> {
-    /// Whether the class is that of the outcomes that do not meet the condition.
-    pub unmet: bool,
-    /// Whether the words ask for a data race, in place of a class.
-    pub race: bool,
-    /// The choice that the words ask for, in place of a class.
-    pub choice: Option<u64>,
-    /// The sources, and final values of registers, of the choice that the words ask for, in place of a class.
-    pub from: Option<&'a str>,
-    /// A condition in place of the text's.
-    pub condition: Option<&'a str>,
-    /// How many attempts are looked at, at the most.
-    pub most: usize,
-    /// Whether the answer is JSON.
-    pub json: bool,
-    /// The file that holds the text; standard input where there is none.
-    pub file: Option<&'a str>,
-}
-
-/// How many attempts are looked at where the words give no number.
-const MOST: usize = 1_000;
-
-/// The largest number of attempts that may be asked for.
-const MOST_LIMIT: i64 = 1_000_000;
-
-/// What follows the list of flags in the help.
-const AFTER: &str = "\
-Exit status:
-  0  an explanation was printed
-  1  the text or its test is refused: the reason is printed on standard output
-  2  a fault of the command line
-  3  out of memory
-  4  the input or the output failed
-
-Example:
-  jslit-why litmus/sb.lit";
-
-/// A flag that takes no value.
-fn flag<'a>(alloc: Global, name: &'a str, help: &'a str) -> Arg<'a> {
-    Arg::new(alloc, name)
-        .long(name)
-        .action(ArgAction::SetTrue)
-        .help(help)
-}
-
-/// The flag for the number of attempts.
-fn most_flag<'a>(alloc: Global) -> Arg<'a> {
-    Arg::new(alloc, "most")
-        .long("most")
-        .value_name("N")
-        .action(ArgAction::Set)
-        .value_parser(value_parser!(usize).range(1..=MOST_LIMIT))
-        .help("How many attempts are looked at, 1 to 1000000 [default: 1000]")
-}
-
-/// The flag for a choice.
-fn choice_flag<'a>(alloc: Global) -> Arg<'a> {
-    Arg::new(alloc, "choice")
-        .long("choice")
-        .value_name("N")
-        .action(ArgAction::Set)
-        .value_parser(value_parser!(u64).range(0..=CHOICE_LIMIT as i64))
-        .help("Ask for the choice with this number, from 0, valid or not")
-}
-
-/// The flag for sources.
-fn from_flag<'a>(alloc: Global) -> Arg<'a> {
-    Arg::new(alloc, "from")
-        .long("from")
-        .value_name("WORDS")
-        .action(ArgAction::Set)
-        .help("Ask for the choice with these sources, as in 'A.1=init[0] B.0=A.0,A.0 A.r0=0'")
-}
-
-/// The flag for another condition.
-fn condition_flag<'a>(alloc: Global) -> Arg<'a> {
-    Arg::new(alloc, "condition")
-        .long("condition")
-        .value_name("COND")
-        .action(ArgAction::Set)
-        .help("Ask about this condition in place of the text's, as in 'A.r0 == 0 && B.r0 == 0'")
-}
-
-/// The message where the words ask for several things.
-fn exclusion(matches: &ArgMatches<'_>) -> Option<&'static str> {
-    let unmet = matches.get_str("unmet") == Some("true");
-    let race = matches.get_str("race") == Some("true");
-    let choice = matches.get_str("choice").is_some();
-    let from = matches.get_str("from").is_some();
-    match (unmet, race, choice, from) {
-        (true, true, _, _) => Some("the argument '--unmet' cannot be used with '--race'"),
-        (true, _, true, _) => Some("the argument '--unmet' cannot be used with '--choice <N>'"),
-        (true, _, _, true) => Some("the argument '--unmet' cannot be used with '--from <WORDS>'"),
-        (_, true, true, _) => Some("the argument '--race' cannot be used with '--choice <N>'"),
-        (_, true, _, true) => Some("the argument '--race' cannot be used with '--from <WORDS>'"),
-        (_, _, true, true) => Some(
-            "the argument '--choice <N>' cannot be used with '--from <WORDS>'",
-        ),
-        _ => None,
-    }
-}
-
-/// The command `jslit-why`.
-fn command<'a>(alloc: Global) -> Result<Command<'a>, AllocError> {
-    let bare = Command::new(alloc, "jslit-why")
-        .version(VERSION)
-        .about(
-            "Says why no valid execution of a litmus test meets its condition, and where a data race is",
-        )
-        .after_help(AFTER)
-        .bin_name("jslit-why")?;
-    let with_unmet = bare.arg(flag(
-        alloc,
-        "unmet",
-        "Ask for an outcome that does not meet the condition",
-    ))?;
-    let with_race = with_unmet.arg(flag(
-        alloc,
-        "race",
-        "Ask for the first data race, in place of an outcome",
-    ))?;
-    let with_most = with_race.arg(most_flag(alloc))?;
-    let with_choice = with_most.arg(choice_flag(alloc))?;
-    let with_from = with_choice.arg(from_flag(alloc))?;
-    let with_condition = with_from.arg(condition_flag(alloc))?;
-    let with_json = with_condition.arg(flag(alloc, "json", "Answer with a line of JSON"))?;
-    let whole = with_json.arg(
-        Arg::new(alloc, "file")
-            .value_name("FILE")
-            .action(ArgAction::Set)
-            .help("The litmus text [default: standard input]"),
-    )?;
-    Ok(whole)
-}
-
-/// What the words ask for: the program's name, its flags and at most one file.
-pub(crate) fn line_of<'a, S: AsStr>(
+/// Does what the words ask for. Gives the status: 0 for an explanation, 1 for a text or test that is refused, 2 for a fault of
+/// the words, 3 where memory ran out, 4 for an input or output that failed.
+pub(crate) fn program<T: Threads + Sync + Files, S: AsStr, R: Read + Drop, W: Write, E: Write>(
+    rt: &T,
     alloc: Global,
-    words: &'a [S],
-) -> Result<CommandLine<'a>, Error> {
-    let mut command = command(alloc)?;
-    let matches = command.try_get_matches_from_mut(words)?;
-    if let Some(text) = exclusion(&matches) {
-        return Err(command.error(ErrorKind::ArgumentConflict, text)?);
+    words: &[S],
+    input: R,
+    output: &mut Counted<W>,
+    errors: &mut E,
+) -> u8
+    requires { failures_of output.old < 2 ^ 64 - 1 }
+{
+    let line = match line(alloc, words) {
+        Ok(line) => line,
+        Err(error) => return explain_words(output, errors, &error),
+    };
+    let Some(path) = line.file else {
+        return answer_text(rt, alloc, read_text(alloc, input), output, errors, &line);
+    };
+    match fs::open(rt, path) {
+        Ok(file) => answer_text(rt, alloc, read_text(alloc, file), output, errors, &line),
+        Err(_) => say(errors, RunFault::InputFailed),
     }
-    let from = matches.get_str("from");
-    if !from.is_none_or(are_words) {
-        let text =
-            "the argument '--from <WORDS>' has words of the form EVENT=SOURCE[,SOURCE..] or AGENT.rN=VALUE";
-        return Err(command.error(ErrorKind::ValueValidation, text)?);
+}
+
+/// The bytes of the input, up to one more than a text may have.
+fn read_text<R: Read + Drop>(alloc: Global, input: R) -> io::Result<Vec<u8>> {
+    let mut text = Vec::new(alloc);
+    input.take(TEXT_LIMIT as u64 + 1).read_to_end(&mut text)?;
+    Ok(text)
+}
+
+/// The fault of a read or of a growth.
+fn fault_of(error: &io::Error, other: RunFault) -> RunFault {
+    if error.kind() == io::ErrorKind::OutOfMemory {
+        RunFault::OutOfMemory
+    } else {
+        other
     }
-    Ok(CommandLine {
-        unmet: matches.get_str("unmet") == Some("true"),
-        race: matches.get_str("race") == Some("true"),
-        choice: matches.get_one("choice"),
-        from,
-        condition: matches.get_str("condition"),
-        most: matches.get_one("most").unwrap_or(MOST),
-        json: matches.get_str("json") == Some("true"),
-        file: matches.get_str("file"),
-    })
+}
+
+/// Prints the answer to the words on a text, or why there is none. Gives the status.
+fn answer_text<T: Threads + Sync, W: Write, E: Write>(
+    rt: &T,
+    alloc: Global,
+    text: io::Result<Vec<u8>>,
+    output: &mut Counted<W>,
+    errors: &mut E,
+    line: &CommandLine<'_>,
+) -> u8
+    requires { failures_of output.old < 2 ^ 64 - 1 }
+{
+    let text = match text {
+        Ok(text) => text,
+        Err(error) => return say(errors, fault_of(&error, RunFault::InputFailed)),
+    };
+    match explain(alloc, &text, &line.asked) {
+        Ok(answer) => match write_buffer(output, errors, &answer.text) {
+            0 if !answer.found => 1,
+            status => status,
+        },
+        Err(ReasonFault::Condition) => {
+            let _ = errors.write_all(CONDITION_REFUSED.as_bytes());
+            2
+        }
+        Err(ReasonFault::Read(_) | ReasonFault::Plan(_)) => refuse(
+            rt, alloc, &text, output, errors,
+        ),
+        Err(ReasonFault::OutOfMemory) => say(errors, RunFault::OutOfMemory),
+    }
+}
+
+/// What is said where the condition of the words is none of the test.
+const CONDITION_REFUSED: &str =
+    "error: invalid value for '--condition <COND>': it is no condition of this test\n";
+
+/// Prints the line of a text or test that is refused, as jslit does.
+fn refuse<T: Threads + Sync, W: Write, E: Write>(
+    rt: &T,
+    alloc: Global,
+    text: &[u8],
+    output: &mut Counted<W>,
+    errors: &mut E,
+) -> u8
+    requires { failures_of output.old < 2 ^ 64 - 1 }
+{
+    let options = Options {
+        workers: 1,
+        cut: 1,
+        quick: true,
+    };
+    let mut input = Counted::new(text);
+    check(rt, alloc, &mut input, output, errors, options)
+}
+
+/// Writes a buffer. Gives the status.
+fn write_buffer<W: Write, E: Write>(output: &mut Counted<W>, errors: &mut E, buffer: &[u8]) -> u8 {
+    let Ok(()) = output.write_all(buffer) else {
+        return say(errors, RunFault::OutputFailed);
+    };
+    match output.flush() {
+        Ok(()) => 0,
+        Err(_) => say(errors, RunFault::OutputFailed),
+    }
+}
+
+/// Prints the line of a fault, and gives the status.
+fn say<E: Write>(errors: &mut E, fault: RunFault) -> u8 {
+    let _ = writeln!(errors, "{fault}");
+    match fault {
+        RunFault::OutOfMemory => 3,
+        _ => 4,
+    }
+}
+
+/// Prints what `clap` answers to words that ask for no text: the help, or what is wrong with them. Gives the status.
+fn explain_words<W: Write, E: Write>(output: &mut Counted<W>, errors: &mut E, error: &Error) -> u8 {
+    match error.kind() {
+        ErrorKind::OutOfMemory => say(errors, RunFault::OutOfMemory),
+        ErrorKind::DisplayHelp | ErrorKind::DisplayVersion => {
+            let _ = write!(output, "{error}");
+            let _ = output.flush();
+            0
+        }
+        _ => {
+            let _ = write!(errors, "{error}");
+            2
+        }
+    }
 }

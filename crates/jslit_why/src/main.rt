@@ -1,27 +1,10 @@
-//! The program jslit-why: why no valid execution of a litmus test has an outcome of a class, an example where one has, and which
-//! two events are in a data race. What it says of an execution it has from the calls of `lit_why`; its text is tested, not proved.
-//! Its sums saturate where nothing proves that they fit.
+//! The program jslit-why: the words of its command line, its devices and its status. What it prints is the answer of `lit_reason`.
 #![tactic(auto)]
 
-mod attempts;
-mod choices;
-mod classes;
-mod clauses;
 mod command;
-mod cores;
-mod cycles;
-mod execution;
-mod explanation;
-mod guards;
-mod json;
-mod races;
-mod reasons;
-mod scene;
-mod selection;
-mod statements;
-mod wording;
+mod line;
 
-use crate::explanation::answer;
+use crate::command::program;
 use jslit::{Counted, no_words};
 use std::process::ExitCode;
 use std::{env, io};
@@ -39,7 +22,7 @@ fn main(rt: HostRuntime) -> ExitCode {
         Err(error) => return ExitCode::from(no_words(&mut errors, &error)),
     };
     let mut output = Counted::new(rt.stdout());
-    let status = answer(
+    let status = program(
         &rt,
         rt.alloc(),
         &words,

@@ -1,8 +1,8 @@
 -- Covers by refuted boxes: by one box, and by those that come of each source of a byte read in turn.
 use Rattle.std.proofs.Common.{◌≡◌, ◌↔◌, ◌⊎◌, inl, inr, ℕ, zero, suc, ◌+◌, ◌-◌, ◌<◌, List, [], ◌∷◌, ◌++◌, Some, arith, get_or, length}
 use Rattle.std.proofs.Common.{ap, refl, subst, sym, ◌∙◌}
-use Rattle.std.specs.Prelude.{slice_get}
-use Rattle.std.proofs.lemmas.Bool.{cases_eq, cases_lt}
+use Rattle.std.specs.Prelude.{Bool, IsTrue, false, slice_get, true}
+use Rattle.std.proofs.lemmas.Bool.{cases_eq, cases_lt, false≢true}
 use Rattle.std.proofs.lemmas.List.{append-nil, append_assoc}
 use Rattle.std.proofs.lemmas.Option.{same_Some, slice_get_within, slice_get-get_or}
 use Rattle.lit_paths.specs.ByteReads.{byte_reads}
@@ -15,7 +15,8 @@ use Rattle.lit_solve.specs.Box.{Box, HasSource, IsBox, LiesIn, box_events}
 use Rattle.lit_solve.specs.Fill.{AreSourcesIn}
 use Rattle.lit_solve.proofs.DomainLemmas.{pruned_at, pruned_is_box, pruned_within, source_here, source_other}
 use Rattle.lit_why.specs.declared.cases.covering.Case.{Case}
-use Rattle.lit_why.specs.Refutation.{AddsCover, HasCase, IsCaseOf, IsRefutation, case_box}
+use Rattle.lit_why.specs.Refutation.{AreCases, AreWhole, HasCase, IsCaseOf, IsRefutation, case_box}
+use Rattle.lit_why.specs.Internal.Cutting.{AddsCases}
 
 -- an order by relations is one by others that hold of the same
 pub order_by : (n m : ℕ) (before other : ℕ → ℕ → Type 0) (forbidden others : ℕ → ℕ → ℕ → Type 0) → n ≡ m
@@ -40,7 +41,7 @@ only_one a b zero at = same_Some a b at
 only_one a b (suc i) at = absurd (none_in i b at)
 
 pub covers_itself : (box : Box) (old : List Case) (case : Case) → case_box box case ≡ box → IsBox box → IsRefutation box case.refusal
-    → AddsCover box old (old ++ case ∷ [])
+    → AddsCases box old (old ++ case ∷ []) true
 covers_itself box old case same is_box refuted = record {
   added = case ∷ [];
   goes_on = refl;
@@ -53,7 +54,7 @@ covers_itself box old case same is_box refuted = record {
     };
     refuted = subst (λ (b : Box). IsRefutation b case.refusal) (sym same) refuted;
   });
-  whole = λ sources lie. record {
+  whole = λ all sources lie. record {
     place = 0;
     case = case;
     at_place = refl;
@@ -61,12 +62,21 @@ covers_itself box old case same is_box refuted = record {
   };
 }
 
+-- ---- all of a list that was empty
+pub all_added : (box : Box) (old new : List Case) (all : Bool) → old ≡ [] → AddsCases box old new all
+    → AreCases box new × (IsTrue all → AreWhole box new)
+all_added box old new all empty adds =
+    let same : new ≡ adds.added = adds.goes_on ∙ ap (λ (zs : List Case). zs ++ adds.added) empty in (
+      subst (AreCases box) (sym same) adds.each,
+      λ is. subst (AreWhole box) (sym same) (adds.whole is),
+    )
+
 -- ---- the sources of a byte read in turn
 -- cases of a box that have all sources in it whose source at a place was tried before
 pub record CoversPast (box : Box) (place : ℕ) (left : EventSet) (old new : List Case) : Type 0 where
   pub added : List Case
   pub goes_on : new ≡ old ++ added
-  pub each : (i : ℕ) (case : Case) → slice_get added i ≡ Some case → IsCaseOf box case
+  pub each : AreCases box added
   pub whole : (sources : List ℕ) → AreSourcesIn box sources → ((w : ℕ) → slice_get sources place ≡ Some w → ¬ HasEvent left w)
       → HasCase box added sources
 
@@ -109,12 +119,12 @@ module _ (box : Box) (place : ℕ) (inside : place < length (byte_reads (box_eve
   }
 
   pub all_covered : (left : EventSet) → ((w : ℕ) → ¬ HasEvent left w) → (old new : List Case) → CoversPast box place left old new
-      → AddsCover box old new
+      → AddsCases box old new true
   all_covered left none old new covers = record {
     added = covers.added;
     goes_on = covers.goes_on;
     each = covers.each;
-    whole = λ sources lie. covers.whole sources lie (λ w at. none w);
+    whole = λ all sources lie. covers.whole sources lie (λ w at. none w);
   }
 
   module _ (room : place < length box.domains) (left others one : EventSet) (source : ℕ) (split : IsSplit left source others)
@@ -157,22 +167,39 @@ module _ (box : Box) (place : ℕ) (inside : place < length (byte_reads (box_eve
     has_in_box : (cases : List Case) (sources : List ℕ) → HasCase next cases sources → HasCase box cases sources
     has_in_box cases sources h = record { place = h.place; case = h.case; at_place = h.at_place; lies = h.lies }
 
-    pub covers_more : (old mid new : List Case) → CoversPast box place left old mid → AddsCover next mid new
-        → CoversPast box place others old new
-    covers_more old mid new before behind = record {
+    both_added : (old mid new first second : List Case) → mid ≡ old ++ first → new ≡ mid ++ second
+        → new ≡ old ++ (first ++ second)
+    both_added old mid new first second before behind =
+        behind ∙ ap (λ (zs : List Case). zs ++ second) before ∙ append_assoc old first second
+
+    both_are_cases : (first second : List Case) → AreCases box first → AreCases next second → AreCases box (first ++ second)
+    both_are_cases first second of_box of_next i case at = elim (parted first second i case at) [
+      | inl left_one ↦ of_box i case left_one
+      | inr right_one ↦ case_of_box case (of_next (i - length first) case right_one)
+    ]
+
+    -- the cases of the next box are not all
+    pub cases_more : (old mid new : List Case) (all : Bool) → CoversPast box place left old mid → AddsCases next mid new all
+        → AddsCases box old new false
+    cases_more old mid new all before behind = record {
       added = before.added ++ behind.added;
-      goes_on = behind.goes_on ∙ ap (λ (zs : List Case). zs ++ behind.added) before.goes_on
-          ∙ append_assoc old before.added behind.added;
-      each = λ i case at. elim (parted before.added behind.added i case at) [
-        | inl first ↦ before.each i case first
-        | inr second ↦ case_of_box case (behind.each (i - length before.added) case second)
-      ];
+      goes_on = both_added old mid new before.added behind.added before.goes_on behind.goes_on;
+      each = both_are_cases before.added behind.added before.each behind.each;
+      whole = λ all. absurd (false≢true all);
+    }
+
+    pub covers_more : (old mid new : List Case) (all : Bool) → IsTrue all → CoversPast box place left old mid
+        → AddsCases next mid new all → CoversPast box place others old new
+    covers_more old mid new all is_all before behind = record {
+      added = before.added ++ behind.added;
+      goes_on = both_added old mid new before.added behind.added before.goes_on behind.goes_on;
+      each = both_are_cases before.added behind.added before.each behind.each;
       whole = λ sources lie past.
           let at = source_at sources lie in
           elim (event_or_not left (get_or sources place 0)) [
             | inl yet ↦ elim (cases_eq (get_or sources place 0) source) [
               | inl is ↦ has_right box before.added behind.added sources
-                  (has_in_box behind.added sources (behind.whole sources (lie_next sources lie is)))
+                  (has_in_box behind.added sources (behind.whole is_all sources (lie_next sources lie is)))
               | inr other ↦ absurd (past (get_or sources place 0) at ((split.rest (get_or sources place 0)).1 (yet, other)))
             ]
             | inr gone ↦ has_left box before.added behind.added sources (before.whole sources lie (λ w at_w there.

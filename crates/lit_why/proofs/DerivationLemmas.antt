@@ -140,25 +140,6 @@ pub two_less : (m n : ℕ) (grown : Bool) → n < m → 2 * n + cond true 1 0 < 
 two_less m n true less = omega arith
 two_less m n false less = omega arith
 
--- ---- by relations that hold of the same pairs
-module _ (before other : ℕ → ℕ → Type 0) (forbidden more : ℕ → ℕ → ℕ → Type 0) (same : (e d : ℕ) → before e d ↔ other e d) (same_triples : (w r v : ℕ) → forbidden w r v ↔ more w r v) where
-  pub IsDerivationBy-same : (lines : List DerivationLine) → IsDerivationBy before forbidden lines → IsDerivationBy other more lines
-  IsDerivationBy-same lines h = record {
-    follows = λ k line at. Follows-wider before other forbidden more (λ e d. (same e d).0) (λ w r v. (same_triples w r v).0) lines k line.before line.after line.reason (h.follows k line at);
-    ends = h.ends;
-    cited = h.cited;
-    once = h.once;
-  }
-
-  IsForced-back : (a d : ℕ) → IsForced other more a d → IsForced before forbidden a d
-  IsForced-back a d (Given h) = Given ((same a d).1 h)
-  IsForced-back a d (Through m p q) = Through m (IsForced-back a m p) (IsForced-back m d q)
-  IsForced-back a d (AfterRead w f not_source not_read p) = AfterRead w ((same_triples w a d).1 f) not_source not_read (IsForced-back w d p)
-  IsForced-back a d (BeforeSource r f not_source not_read p) = BeforeSource r ((same_triples d r a).1 f) not_source not_read (IsForced-back a r p)
-
-  pub no_cycle_same : ¬ HasForcedCycle before forbidden → ¬ HasForcedCycle other more
-  no_cycle_same none cycle = none (cycle.0, IsForced-back cycle.0 cycle.0 cycle.1)
-
 -- ---- what each line says is forced
 module _ (before : ℕ → ℕ → Type 0) (forbidden : ℕ → ℕ → ℕ → Type 0) (apart : (w r v : ℕ) → forbidden w r v → (v ≢ w) × (v ≢ r)) (lines : List DerivationLine) (each : EachFollows before forbidden lines) where
   follows_forced : (most : ℕ) → ((k e d : ℕ) → k < most → IsLineOf lines k e d → IsForced before forbidden e d) → (k e d : ℕ) → k < most + 1 → (reason : Reason)

@@ -10,6 +10,7 @@ pub mod DomainLemmas
 pub mod FirstRaceLemmas
 pub mod LinkLemmas
 pub mod NodeLemmas
+pub mod UnrefutedLemmas
 pub mod UsedLineLemmas
 pub mod RaceLemmas
 pub mod ReachLemmas

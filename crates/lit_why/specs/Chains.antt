@@ -2,41 +2,32 @@
 use Rattle.std.specs.Prelude.{◌≡◌, ◌⊎◌, ℕ, ◌+◌, ◌<◌, ◌≤◌, List, [], ◌∷◌, length}
 use Rattle.lit_paths.specs.declared.event.Event.{Event}
 use Rattle.lit_rel.specs.AgentOrder.{IsAgentOrdered}
-use Rattle.lit_rel.specs.HappensBefore.{Chain, IsMadeBefore, StepBy}
-use Rattle.lit_rel.specs.Part.{PartModel, part_events}
-use Rattle.lit_rel.specs.ReadsFrom.{ReadsByteFrom}
-use Rattle.lit_rel.specs.SynchronizesWith.{Synchronizes}
+use Rattle.lit_rel.specs.HappensBefore.{Chain, IsMadeBefore}
 use Rattle.lit_why.specs.declared.chains.links.Link.{Link}
 use Rattle.lit_why.specs.declared.chains.links.StepKind.{StepKind}
 use Rattle.lit_why.specs.declared.chains.links.StepKind.TheVariants.{AgentOrder, MadeBefore, SynchronizesWith}
 
 -- Of what kind a step from e to d is, by a relation that stands for synchronizes-with: agent-order, else synchronizes-with, else
 -- that e makes a byte of d.
-abbrev pub IsOfKindBy : List Event → (ℕ → ℕ → Type 0) → StepKind → ℕ → ℕ → Type 0
-IsOfKindBy events synchronizes AgentOrder e d = IsAgentOrdered events e d
-IsOfKindBy events synchronizes SynchronizesWith e d = synchronizes e d × ¬ IsAgentOrdered events e d
-IsOfKindBy events synchronizes MadeBefore e d = IsMadeBefore events e d × ¬ IsAgentOrdered events e d × ¬ synchronizes e d
+abbrev pub IsOfKind : List Event → (ℕ → ℕ → Type 0) → StepKind → ℕ → ℕ → Type 0
+IsOfKind events synchronizes AgentOrder e d = IsAgentOrdered events e d
+IsOfKind events synchronizes SynchronizesWith e d = synchronizes e d × ¬ IsAgentOrdered events e d
+IsOfKind events synchronizes MadeBefore e d = IsMadeBefore events e d × ¬ IsAgentOrdered events e d × ¬ synchronizes e d
 
 -- links of such steps lead from e to d, each from the event that the one before it leads to
-abbrev pub AreLinkedBy : List Event → (ℕ → ℕ → Type 0) → ℕ → List Link → ℕ → Type 0
-AreLinkedBy events synchronizes e [] d = e ≡ d
-AreLinkedBy events synchronizes e (link ∷ links) d =
-    IsOfKindBy events synchronizes link.kind e link.to × AreLinkedBy events synchronizes link.to links d
+abbrev pub AreLinked : List Event → (ℕ → ℕ → Type 0) → ℕ → List Link → ℕ → Type 0
+AreLinked events synchronizes e [] d = e ≡ d
+AreLinked events synchronizes e (link ∷ links) d =
+    IsOfKind events synchronizes link.kind e link.to × AreLinked events synchronizes link.to links d
 
--- the same, where synchronizes-with is that of these sources
-abbrev pub AreLinked : List Event → List ℕ → ℕ → List Link → ℕ → Type 0
-AreLinked events sources = AreLinkedBy events (Synchronizes events sources)
+-- no chain of steps leads from e to d
+abbrev pub HasNoChain : List Event → (ℕ → ℕ → Type 0) → ℕ → ℕ → Type 0
+HasNoChain events synchronizes e d =
+    (middles : List ℕ) → ¬ Chain (λ a b. IsAgentOrdered events a b ⊎ synchronizes a b ⊎ IsMadeBefore events a b) e middles d
 
 -- at least one link, and no chain of steps from e to d has fewer: one with so many events in the middle has one step more
-pub record IsShortestChain (part : PartModel) (e d : ℕ) (links : List Link) : Type 0 where
+pub record IsShortestChain (events : List Event) (synchronizes : ℕ → ℕ → Type 0) (e d : ℕ) (links : List Link) : Type 0 where
   pub some : 0 < length links
-  pub linked : AreLinked (part_events part) part.sources e links d
-  pub shortest : (middles : List ℕ) → Chain (StepBy (part_events part) (ReadsByteFrom (part_events part) part.sources)) e middles d
-      → length links ≤ length middles + 1
-
--- the same, by a relation that stands for synchronizes-with
-pub record IsShortestChainBy (events : List Event) (synchronizes : ℕ → ℕ → Type 0) (e d : ℕ) (links : List Link) : Type 0 where
-  pub some : 0 < length links
-  pub linked : AreLinkedBy events synchronizes e links d
+  pub linked : AreLinked events synchronizes e links d
   pub shortest : (middles : List ℕ) → Chain (λ a b. IsAgentOrdered events a b ⊎ synchronizes a b ⊎ IsMadeBefore events a b) e middles d
       → length links ≤ length middles + 1

@@ -1,6 +1,6 @@
 -- Refutations of boxes: why no valid execution has its sources in the domains, by what is given alone, which are the bytes whose domain
 -- has one source; and covers by refuted boxes (this project's own; the clauses are those of ECMA-262, 2024, 29.7).
-use Rattle.std.specs.Prelude.{◌≡◌, ◌≢◌, ◌↔◌, ℕ, IsTrue, Option, Some, None, List, [], ◌++◌, length, slice_get}
+use Rattle.std.specs.Prelude.{◌≡◌, ◌≢◌, ◌↔◌, ℕ, Bool, IsTrue, Option, Some, None, List, length, slice_get}
 use Rattle.lit_syntax.specs.Syntax.{Litmus}
 use Rattle.lit_paths.specs.ByteReads.{IsCandidate, byte_reads}
 use Rattle.lit_rel.specs.Coherent.{Hides}
@@ -30,6 +30,10 @@ IsRefutation box (Torn r w v) =
     ReadsWholeBy (box_events box) (GivenIn box) r w × ReadsWholeBy (box_events box) (GivenIn box) r v × (w ≢ v)
 IsRefutation box NoOrder = ¬ HasOrder (length (box_events box)) (HappensBeforeIn box) (IsForbiddenIn box)
 
+-- what is given breaks no clause
+abbrev pub IsUnrefuted : Box → Type 0
+IsUnrefuted box = (refusal : Refusal) → ¬ IsRefutation box refusal
+
 -- the box of a case on the combination of another box
 abbrev pub case_box : Box → Case → Box
 case_box box case = record { test = box.test; combination = box.combination; domains = case.domains }
@@ -47,16 +51,18 @@ pub record HasCase (box : Box) (cases : List Case) (sources : List ℕ) : Type 0
   pub at_place : slice_get cases place ≡ Some case
   pub lies : LiesIn (case_box box case) sources
 
--- a list goes on by cases of a box, such that any sources that lie in the box lie in one of them
-pub record AddsCover (box : Box) (old new : List Case) : Type 0 where
-  pub added : List Case
-  pub goes_on : new ≡ old ++ added
-  pub each : (i : ℕ) (case : Case) → slice_get added i ≡ Some case → IsCaseOf box case
-  pub whole : (sources : List ℕ) → AreSourcesIn box sources → HasCase box added sources
+-- each is a case of the box
+abbrev pub AreCases : Box → List Case → Type 0
+AreCases box cases = (i : ℕ) (case : Case) → slice_get cases i ≡ Some case → IsCaseOf box case
+
+-- any sources that lie in the box lie in one of the cases
+abbrev pub AreWhole : Box → List Case → Type 0
+AreWhole box cases = (sources : List ℕ) → AreSourcesIn box sources → HasCase box cases sources
 
 -- cases of a box, each refuted, that have all sources which lie in it
-abbrev pub IsCover : Box → List Case → Type 0
-IsCover box cases = AddsCover box [] cases
+pub record IsCover (box : Box) (cases : List Case) : Type 0 where
+  pub each : AreCases box cases
+  pub whole : AreWhole box cases
 
 -- The box of the attempt that a choice with these sources is of: each byte read that is asked about has the candidates that store the
 -- same byte as its source, and each other has all.
@@ -64,6 +70,16 @@ abbrev pub IsAttemptBox : Litmus × ℕ → List ℕ → List EventSet → Type 
 IsAttemptBox c sources domains =
     (k r b v w : ℕ) → slice_get (byte_reads (events_on c)) k ≡ Some (r, b) → slice_get sources k ≡ Some v
     → HasSource (box_with c domains) k w ↔ (IsCandidate (events_on c) r b w × IsTrue (agree (is_asked c.0 c.1 r) (events_on c) b v w))
+
+-- cases of the attempt that choice n is of, each refuted, which cover it where they are said to be all
+pub record AreCasesOfAttempt (t : Litmus) (n : ℕ) (cases : List Case) (all : Bool) : Type 0 where
+  pub combination : ℕ
+  pub sources : List ℕ
+  pub on : IsOn t n combination sources
+  pub domains : List EventSet
+  pub is_attempt : IsAttemptBox (t, combination) sources domains
+  pub each : AreCases (box_with (t, combination) domains) cases
+  pub whole : IsTrue all → AreWhole (box_with (t, combination) domains) cases
 
 -- the cases cover the box of the attempt that choice n is of
 pub record IsRefutedAttempt (t : Litmus) (n : ℕ) (cases : List Case) : Type 0 where

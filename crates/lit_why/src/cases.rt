@@ -5,9 +5,9 @@ pub(crate) mod covering;
 pub(crate) mod given;
 pub(crate) mod refuting;
 
-ghost use Rattle.std.specs.Prelude.{◌<◌, IfOk, IsTrue, length};
+ghost use Rattle.std.specs.Prelude.{◌<◌, ◌≤◌, IfOk, IsTrue, length};
 ghost use Rattle.lit_paths.specs.Choice.{choices_of};
-ghost use Rattle.lit_why.specs.Refutation.{IsRefutedAttempt};
+ghost use Rattle.lit_why.specs.Refutation.{AreCasesOfAttempt, IsRefutedAttempt};
 
 use crate::cases::attempt_box::attempt_box;
 use crate::cases::covering::{Case, add_cases};
@@ -20,12 +20,12 @@ use std::alloc::{AllocError, Global};
 pub struct Cover {
     /// The cases that were found, each refuted by what is given in it.
     pub cases: Vec<Case>,
-    /// Whether each choice of the attempt has its sources in one of them.
+    /// Whether each choice of the attempt has its sources in one of them; `false` may come of the limit alone.
     pub whole: bool,
 }
 
-/// The cases of the attempt that a choice is of, by the choice's number, below `plan.total()`: at most so many. Where they are the whole
-/// of it, no choice of the attempt has a valid execution. Fails only where memory is refused.
+/// The cases of the attempt that a choice is of, by the choice's number, below `plan.total()`: at most so many, each refuted. Where they
+/// are the whole of it, no choice of the attempt has a valid execution. Fails only where memory is refused.
 pub fn cover_of(
     alloc: Global,
     plan: &Plan<'_>,
@@ -33,7 +33,9 @@ pub fn cover_of(
     most: usize,
 ) -> Result<Cover, AllocError>
     requires { choice < length (choices_of plan.now) }
-    ensures { IfOk result (λ cover. IsTrue cover.whole → IsRefutedAttempt plan.now choice cover.cases.items) }
+    ensures cases { IfOk result (λ cover. AreCasesOfAttempt plan.now choice cover.cases.items cover.whole) }
+    ensures few { IfOk result (λ cover. length cover.cases.items ≤ most) }
+    ensures refuted { IfOk result (λ cover. IsTrue cover.whole → IsRefutedAttempt plan.now choice cover.cases.items) }
 {
     // Tells the prover that the test is one that a text can spell.
     let _test = plan.test();

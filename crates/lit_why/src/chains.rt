@@ -4,11 +4,9 @@ pub(crate) mod links;
 mod reaching;
 pub(crate) mod steps;
 
-ghost use Rattle.std.specs.Prelude.{◌≡◌, ◌↔◌, ℕ, ◌+◌, ◌<◌, IfSome, MatchOption, length};
-ghost use Rattle.lit_rel.specs.HappensBefore.{HappensBefore};
-ghost use Rattle.lit_rel.specs.Part.{part_events};
+ghost use Rattle.std.specs.Prelude.{◌≡◌, ◌↔◌, ℕ, ◌+◌, ◌<◌, MatchOption, length};
 ghost use Rattle.lit_rel.specs.Rows.{Holds, rows_len};
-ghost use Rattle.lit_why.specs.Chains.{AreLinkedBy, IsOfKindBy, IsShortestChain, IsShortestChainBy};
+ghost use Rattle.lit_why.specs.Chains.{AreLinked, HasNoChain, IsOfKind, IsShortestChain};
 ghost use Rattle.lit_why.specs.Internal.Reaching.{AreLevels, IsReachedBy, IsStep};
 
 use crate::chains::links::{Chain, Link};
@@ -16,7 +14,7 @@ use crate::chains::reaching::{levels_below, next_of};
 use crate::chains::steps::{kind_of, steps_of};
 use arrayvec::ArrayVec;
 use lit_paths::{EVENT_LIMIT, Event};
-use lit_rel::{EventSet, Part, Rows};
+use lit_rel::{EventSet, Rows};
 
 /// The links of a shortest chain from one event to another, along the levels that `levels_below` gives.
 fn links_along(
@@ -33,7 +31,7 @@ fn links_along(
     requires few { length levels.now < rows_len steps.now }
     requires levels { AreLevels (Holds steps.now) to levels.now }
     requires reached { IsReachedBy (Holds steps.now) to (length levels.now) from }
-    ensures linked { AreLinkedBy events.now (Holds synchronizes.now) from result.items to }
+    ensures linked { AreLinked events.now (Holds synchronizes.now) from result.items to }
     ensures count { length result.items ≡ length levels.now + 1 }
 {
     let mut links = ArrayVec::new();
@@ -56,7 +54,7 @@ fn link_between(events: &[Event], synchronizes: &Rows, first: usize, second: usi
     requires second { second < length events.now }
     requires step { IsStep events.now (Holds synchronizes.now) first second }
     ensures to { result.to ≡ second }
-    ensures kind { IsOfKindBy events.now (Holds synchronizes.now) result.kind first second }
+    ensures kind { IsOfKind events.now (Holds synchronizes.now) result.kind first second }
 {
     // Tells the prover that there are few events, so that the number of an event fits in a byte.
     let _events = synchronizes.len();
@@ -66,50 +64,23 @@ fn link_between(events: &[Event], synchronizes: &Rows, first: usize, second: usi
     }
 }
 
-/// A shortest chain of happens-before from one event to another, both by number; from an event to itself it is a cycle. Each step is of
-/// agent-order, of synchronizes-with, or from an init event to an event whose range has its byte. `None` exactly where the one event
-/// does not happen before the other.
-pub fn chain(part: &Part<'_>, from: u8, to: u8) -> Option<Chain>
-    ensures { MatchOption result (¬ HappensBefore (part_events part.now) part.now.sources from to)
-        (λ chain. IsShortestChain part.now from to chain.links.items) }
+/// A shortest chain of happens-before from one event to another, both by number, by synchronizes-with as rows; from an event to itself it
+/// is a cycle. Each step is of agent-order, of synchronizes-with, or from an init event to an event whose range has its byte. `None`
+/// exactly where there is no chain.
+pub fn chain(events: &[Event], synchronizes: &Rows, from: u8, to: u8) -> Option<Chain>
+    requires { rows_len synchronizes.now ≡ length events.now }
+    ensures { MatchOption result (HasNoChain events.now (Holds synchronizes.now) from to)
+        (λ chain. IsShortestChain events.now (Holds synchronizes.now) from to chain.links.items) }
 {
-    let events = part.combination().events();
-    let synchronizes = part.synchronizes();
-    let steps = steps_of(events, &synchronizes);
+    let steps = steps_of(events, synchronizes);
     let (first, last) = (usize::from(from), usize::from(to));
     if first >= steps.len() || last >= steps.len() {
         return None;
     }
     match levels_below(&steps, first, last) {
         Some(levels) => Some(Chain {
-            links: links_along(
-                events,
-                &synchronizes,
-                &steps,
-                levels.as_slice(),
-                first,
-                last,
-            ),
+            links: links_along(events, synchronizes, &steps, levels.as_slice(), first, last),
         }),
         None => None,
     }
-}
-
-/// The same, by synchronizes-with as rows, on as many events. `None` where there is no chain, or the events are not as many.
-pub fn chain_by(events: &[Event], synchronizes: &Rows, from: u8, to: u8) -> Option<Chain>
-    ensures { IfSome result (λ chain. IsShortestChainBy events.now (Holds synchronizes.now) from to chain.links.items) }
-{
-    if synchronizes.len() != events.len() {
-        return None;
-    }
-    let steps = steps_of(events, synchronizes);
-    let (first, last) = (usize::from(from), usize::from(to));
-    if first >= steps.len() || last >= steps.len() {
-        return None;
-    }
-    let levels = levels_below(&steps, first, last)?;
-    let levels = levels.as_slice();
-    Some(Chain {
-        links: links_along(events, synchronizes, &steps, levels, first, last),
-    })
 }

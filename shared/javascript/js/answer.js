@@ -6,7 +6,6 @@ const { Refusal } = require('./refusal.js');
 const { shown, valueOf } = require('./values.js');
 
 const PATIENCE = 1000;   // milliseconds for a check of an outcome
-const PERHAPS = 'of Atomics.wait and notify the wake-ups are followed, and not the queue: what is marked (perhaps) may be impossible';
 const VERDICTS = { all: 'always', some: 'sometimes', none: 'never' };
 
 // `// check: A !== B` on a line of its own, the last one of all files: {text, file, line}, or null.
@@ -61,41 +60,35 @@ class Check {
   }
 }
 
-// {outcomes: [{text, leaves, isPerhaps, holds}], verdict (null where nothing is asked)}.
+// Of ways with one outcome those are shown that are certain, and then those with the fewest reads.
+function isBetter(made, known) {
+  const count = ({ values }) => values.reduce((sum, each) => sum + each.length, 0);
+  return made.isPerhaps === known.isPerhaps ? count(made) < count(known) : known.isPerhaps;
+}
+
+// Of executions that ended, {leaves, values, isPerhaps}: {outcomes: [{text, isPerhaps, holds, leaves, values}], verdict (null where
+// nothing is asked)}.
 function answerOf(names, ended, asked) {
   const check = asked && new Check(asked);
   const outcomes = new Map();
-  for (const leaves of ended) {
+  for (const { leaves, values, isPerhaps } of ended) {
     const text = leaves.map((leaf, place) => [names[place], told(leaf)]).filter(([, words]) => words !== '')
       .map(([name, words]) => `${name}: ${words}`).join('   ');
     const holds = leaves.every(({ failed, end }) => failed.length === 0 && end !== 'assert')
       && (check === null || check.holds(names, leaves));
-    const isPerhaps = leaves.some((leaf) => leaf.isPerhaps);
+    const made = { text, isPerhaps, holds, leaves, values };
     const known = outcomes.get(text);
-    if (known) Object.assign(known, { isPerhaps: known.isPerhaps && isPerhaps, holds: known.holds && holds });
-    else outcomes.set(text, { text, isPerhaps, holds });
+    if (!known) outcomes.set(text, made);
+    else {
+      const doAllHold = known.holds && holds;
+      if (isBetter(made, known)) Object.assign(known, made);
+      known.holds = doAllHold;
+    }
   }
   const list = [...outcomes.values()].sort((a, b) => (a.text < b.text ? -1 : 1));
   const good = list.filter(({ holds }) => holds).length;
-  const isAsked = check !== null || ended.some((leaves) => leaves.some(({ failed }) => failed.length));
+  const isAsked = check !== null || ended.some(({ leaves }) => leaves.some(({ failed }) => failed.length));
   return { outcomes: list, verdict: isAsked ? VERDICTS[good === 0 ? 'none' : good === list.length ? 'all' : 'some'] : null };
 }
 
-function linesOf(answer, { texts, race, notes }) {
-  const { outcomes, verdict } = answer;
-  const lines = outcomes.map(({ text, holds, isPerhaps }) =>
-    `outcome  ${text || '(nothing is returned or printed)'}${holds ? '' : '   FAILS'}${isPerhaps ? '   (perhaps)' : ''}`);
-  lines.push(`outcomes ${outcomes.length}`);
-  const failing = outcomes.filter(({ holds }) => !holds).length;
-  if (verdict !== null) lines.push(`check ${verdict}${verdict === 'always' ? '' : `, fails in ${failing} of ${outcomes.length}`}`);
-  lines.push(`data race ${race ? 'yes' : 'none found'}`);
-  if (outcomes.length === 0) lines.push('note: no execution ends: each has a loop that waits for what no agent does');
-  for (const note of notes) lines.push(`note: ${note}`);
-  if (outcomes.some(({ isPerhaps }) => isPerhaps)) lines.push(`note: ${PERHAPS}`);
-  const [of, them] = texts === 1 ? ['one text', 'it'] : [`${texts} texts`, 'them'];
-  lines.push(`proved: the outcomes of ${of} (--text prints ${them}); tested, not proved: that these are this program. `
-    + 'Executions that end are listed, no others.');
-  return lines;
-}
-
-module.exports = { answerOf, checkIn, linesOf };
+module.exports = { Check, answerOf, checkIn, dataIn, told };

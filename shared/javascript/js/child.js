@@ -1,10 +1,12 @@
 'use strict';
-// Runs the user's code, in a process of its own with few rights. It is given {files, main, name} on a line of standard input, prints
-// lines of JSON, {ask, text}, each of which is answered by a line {ask, ..}, and at last {answer} or {refusal}.
+// Runs the user's code, in a process of its own with few rights. It is given {files, main, harness, name, wanted} on a line of standard
+// input, prints lines of JSON, {ask, text, why}, each of which is answered by a line {ask, ..}, and at last {answer} or {refusal}.
 
 const readline = require('readline');
 const { answerOf, checkIn } = require('./answer.js');
+const { Details, plain } = require('./details.js');
 const { Exploring } = require('./explore.js');
+const { Places } = require('./places.js');
 const { Refusal } = require('./refusal.js');
 const { Program } = require('./trees.js');
 
@@ -23,9 +25,10 @@ class Asking {
     this.count = 0;
   }
 
-  ask(text) {
+  // The report on a text, or with words what jslit-why says of it.
+  ask(text, why) {
     const number = this.count += 1;
-    say({ ask: number, text });
+    say({ ask: number, text, why });
     return new Promise((done, failed) => this.waiting.set(number, { done, failed }));
   }
 
@@ -38,13 +41,20 @@ class Asking {
   }
 }
 
-async function explored({ files, main, name }, asking) {
+async function explored({ files, main, harness, name, wanted }, asking) {
   const program = new Program(new Map(files), main);
   const asked = checkIn(program.files);
-  const exploring = new Exploring(program, name, (text) => asking.ask(text));
-  const { trees, ended, texts, race, thin } = await exploring.whole();
-  const answer = answerOf(trees.list.map((tree) => tree.name), ended, asked);
-  return { ...answer, race, texts: texts.made.map(({ text }) => text).filter(Boolean), notes: [...program.notes.keys(), ...thin.notes] };
+  if (wanted.why && asked === null) throw new Refusal('--why needs a line `// check: ..` that holds always, or --outcome', null, 2);
+  const made = await new Exploring(program, name, (text) => asking.ask(text)).whole();
+  const answer = answerOf(made.trees.list.map((tree) => tree.name), made.ended, asked);
+  const details = new Details(made, { program, name, answer, places: new Places(main, harness), asking, asked });
+  const named = wanted.outcome === null ? null : await details.named(wanted.outcome);
+  const [examples, races, hangs] = named ? [] : await Promise.all([details.examples(wanted.examples), details.races(), details.hangs()]);
+  return { outcomes: answer.outcomes.map(plain), verdict: answer.verdict, named, examples, races, hangs, names: details.names,
+    isAll: wanted.examples,
+    why: !named && wanted.why && answer.verdict === 'always' ? await details.why() : null,
+    texts: made.texts.made.map(({ text }) => text).filter(Boolean),
+    notes: [...program.notes.keys(), ...(made.isSequential ? [] : made.thin.notes)] };
 }
 
 async function main() {

@@ -2,33 +2,48 @@
 // The command jslit-js; docs/JAVASCRIPT.md describes it.
 
 const fs = require('fs');
-const os = require('os');
 const path = require('path');
 const readline = require('readline');
-const { Failure, JSLIT, readWords, run, start, stop } = require('../command.js');
+const { Failure, readWords, run, start, stop } = require('../command.js');
 const { plain } = require('../lines.js');
-const { ReportReader } = require('../report.js');
-const { linesOf } = require('./answer.js');
+const { Asked, JSLIT, WHY } = require('./asking.js');
+const { compared } = require('./compare.js');
+const { drawn } = require('./draw.js');
+const { compared: seenBeside, tried } = require('./engine.js');
+const { jsonOf } = require('./json.js');
+const { Places } = require('./places.js');
+const { Printer, briefOf, linesOf } = require('./print.js');
 
-const USAGE = `jslit-js [--use HARNESS] [--text] [--limit S] [--time S] [--program PROGRAM] FILE ..
+const USAGE = `jslit-js [--use HARNESS] [--examples] [--why] [--outcome WORDS] [--before FILE] [--json | --draw | --brief | --run N]
+  [--text] [--limit S] [--time S] FILE ..
 
 Runs JavaScript as it is on shared memory whose values are told, and says which outcomes the memory model allows it: FILE and
 the files of its workers, with the text of HARNESS behind the first. Agents are workers, agents of test262's hosts, or what
 is given to agents({ name() { .. }, .. }), where an outcome is what each returns. A line \`// check: A !== B\` asks
-whether that holds of every outcome. The code is run as \`node FILE\` would run it, by Node 20 or later with few rights.
+whether that holds of every outcome. The first outcome that fails it is told line by line, in memory-order, and so is the
+first data race. The code is run as \`node FILE\` would run it, by Node 20 or later with few rights.
 
 Options:
   --use HARNESS      code behind that of the first FILE
+  --examples         tells each outcome and each data race line by line
+  --why              why a check that holds always does
+  --outcome WORDS    how an outcome comes about, or why it can't: 'A: true, B: [0, 1]'
+  --before FILE      whether each outcome is one of FILE's: is the change of it allowed
+  --json             prints JSON (docs/schemas/js.json)
+  --draw             draws the outcome that is named, or the first that fails, or the first, for Graphviz
+  --run N            runs the agents N times on real workers of Node, and says how often each outcome was seen
+  --brief            prints the number of outcomes, the verdict and whether there is a data race, and ends with 0
   --text             prints the litmus texts that were asked, too
   --limit S          seconds for each run of the program [default: 120]
   --time S           seconds for all of it [default: 600]
   --program PROGRAM  the program
+  --why-program PROGRAM  the program that is asked for executions and reasons
   --help             prints this
   --version          prints the version
 
 Exit status:
-  0   the check holds of every outcome, or nothing is asked
-  1   the check fails, or the code is refused
+  0   the check holds of every outcome, or nothing is asked; there is such an outcome; no outcome is added
+  1   the check fails, there is no such outcome, one is added, or the code is refused
   2   the words are wrong
   3   memory ran out
   4   a file can't be read
@@ -40,10 +55,10 @@ Example:
 `;
 const CHILD = path.join(__dirname, 'child.js');
 const TOP = path.resolve(__dirname, '..', '..', '..');
-const READ = [path.join(TOP, 'shared', 'javascript', '*'), path.join(TOP, 'crates', '*'), '/usr/share/nodejs/*', '/usr/lib/nodejs/*'];
+const READ = [path.join(TOP, 'shared', 'javascript', '*'), path.join(TOP, 'shared', 'limits.json'), '/usr/share/nodejs/*', '/usr/lib/nodejs/*'];
 const MEMORY = 512;        // MB of the code's heap
 const SILENCE = 2000;      // milliseconds before there is a sign of life
-const RUNS = Math.max(1, os.cpus().length);   // of the program, at a time
+const CODE = 56;           // characters of a line of code that are shown
 
 // The words of Node by which a process may read what it needs, and nothing else: since Node 20.
 function rightsOf(version) {
@@ -89,10 +104,24 @@ class Sources {
 
   // Where something is, as the user knows it.
   place(file, line) {
-    if (line === null) return plain(file);
-    if (file === this.main && this.harness
-      && line >= this.harness.from) return `${plain(this.harness.name)}:${line - this.harness.from + 1}`;
-    return `${plain(file)}:${line}`;
+    const at = new Places(this.main, this.harness).at({ file, line });
+    return at.line === null ? plain(at.file) : `${plain(at.file)}:${at.line}`;
+  }
+
+  // The code of a step, or else of its line.
+  code({ code, file, line }) {
+    const text = plain(code ?? this.line(file, line).trim().replace(/\s+/g, ' '));
+    return text.length > CODE ? `${text.slice(0, CODE - 2)}..` : text;
+  }
+
+  // A line by the user's places.
+  line(file, line) {
+    const isHarness = this.harness !== null && file === this.harness.name;
+    return this.files.get(isHarness ? this.main : file)?.split('\n')[line - 1 + (isHarness ? this.harness.from - 1 : 0)] ?? '';
+  }
+
+  get printer() {
+    return new Printer({ main: this.main, place: (file, line) => `${plain(file)}:${line}`, code: (step) => this.code(step) });
   }
 
   // The same of places within a text.
@@ -101,61 +130,8 @@ class Sources {
   }
 }
 
-// Runs of the program, a few at a time.
-class Asked {
-  constructor(program, limit) {
-    Object.assign(this, { program, limit, free: RUNS, queue: [], count: 0, failure: null });
-  }
-
-  async ask(text) {
-    if (this.free === 0) await new Promise((done) => this.queue.push(done));
-    this.free -= 1;
-    this.count += 1;
-    try {
-      return await this.report(text);
-    } finally {
-      this.free += 1;
-      this.queue.shift()?.();
-    }
-  }
-
-  async report(text) {
-    const { child, ended } = start(this.program, [], ['pipe', 'pipe', 'ignore']);
-    child.stdin?.on('error', () => {});
-    child.stdin?.end(text);
-    const pieces = [];
-    child.stdout?.on('data', (piece) => pieces.push(piece));
-    let late = false;
-    const clock = setTimeout(() => {
-      late = true;
-      stop(child, 'SIGKILL');
-    }, this.limit * 1000);
-    const { error, status, signal } = await ended;
-    clearTimeout(clock);
-    if (late) throw new Failure(5, `the program gave no report on a text within ${this.limit} seconds (--limit)`);
-    if (error) throw new Failure(70, `the program isn't run: ${plain(error.message)}`);
-    if (status === 3) throw new Failure(3, 'the program ran out of memory');
-    if (signal || (status !== 0 && status !== 1)) throw new Failure(70,
-      `${plain(this.program)} gave no report, and ended with ${signal || `status ${status}`}`);
-    return reportOf(Buffer.concat(pieces).toString('latin1'));
-  }
-}
-
-function reportOf(printed) {
-  const told = { registers: [], outcomes: [], race: false };
-  const reader = new ReportReader((part) => {
-    if (part.begins) told.registers = part.begins.registers;
-    else if (part.outcome) told.outcomes.push(part.outcome.values);
-    else if (part.ends) told.race = part.ends.data_race === true;
-    else told.refused = part.all.number ?? part.all.kind;
-  });
-  for (const line of printed.split('\n').slice(0, -1)) reader.line(line);
-  reader.line(null);
-  return told;
-}
-
 // Lets the child go on with its code until it has told an answer or a refusal, or has ended otherwise.
-async function carriedOut(sources, asked, time) {
+async function carriedOut(sources, asked, time, wanted) {
   const rights = rightsOf(process.versions.node);
   if (rights === null) process.stderr.write(
     `jslit-js: Node ${process.versions.node} runs the code with all rights; Node 20 or later with few\n`);
@@ -164,7 +140,7 @@ async function carriedOut(sources, asked, time) {
   child.stdin.on('error', () => {});
   const name = sources.main.replace(/\.\w+$/, '').replace(/\W/g, '_').replace(/^(?=\d)/, '_').slice(0, 32) || '_';
   const tell = (told) => child.stdin.write(`${JSON.stringify(told)}\n`);
-  tell({ files: [...sources.files], main: sources.main, name });
+  tell({ files: [...sources.files], main: sources.main, harness: sources.harness, name, wanted });
   let said = '';
   child.stderr.on('data', (piece) => { if (said.length < 1e5) said += piece; });
   let last = null;
@@ -176,7 +152,7 @@ async function carriedOut(sources, asked, time) {
   readline.createInterface({ input: child.stdout }).on('line', (line) => {
     const told = JSON.parse(line);
     if (told.ask === undefined) last = told;
-    else asked.ask(told.text).then((report) => tell({ ask: told.ask, ...report }), fail);
+    else asked.ask(told).then((report) => tell({ ask: told.ask, ...report }), fail);
   });
   const clock = setTimeout(() => fail(new Failure(5, `there is no answer within ${time} seconds (--time)`)), time * 1000);
   const { error, status, signal } = await ended;
@@ -210,19 +186,67 @@ function signOfLife(asked) {
 }
 
 async function main(given) {
-  const words = readWords(given, { use: null, limit: '120', time: '600', program: JSLIT, text: false });
+  const words = readWords(given, { use: null, limit: '120', time: '600', program: JSLIT, 'why-program': WHY, text: false, examples: false,
+    why: false, outcome: null, before: null, json: false, brief: false, draw: false, run: null });
   if (words.help) return process.stdout.write(USAGE) && 0;
   const [limit, time] = [secondsOf(words, 'limit'), secondsOf(words, 'time')];
-  const sources = new Sources(words.paths, words.use);
-  const asked = new Asked(path.resolve(words.program), limit);
+  const asked = new Asked({ program: path.resolve(words.program), why: path.resolve(words['why-program']), limit });
   const ended = signOfLife(asked);
-  const { answer, refusal } = await carriedOut(sources, asked, time).finally(ended);
+  const answered = (sources, wanted) => answerOn(sources, asked, time, wanted);
+  return (words.before === null ? whole(words, answered) : change(words, answered)).finally(ended);
+}
+
+// The answer on some files, as the user knows their places.
+async function answerOn(sources, asked, time, wanted) {
+  const { answer, refusal } = await carriedOut(sources, asked, time, { examples: false, why: false, outcome: null, ...wanted });
   if (refusal) throw new Failure(refusal.status,
     `${refusal.at?.file ? `${sources.place(refusal.at.file, refusal.at.line)}: ` : ''}${plain(sources.placed(refusal.text))}`);
-  const lines = linesOf(answer, { ...answer, texts: answer.texts.length, notes: answer.notes.map((note) => sources.placed(note)) });
-  const texts = words.text ? answer.texts.map((text) => `\n${text}`) : [];
-  process.stdout.write(`${lines.map(plain).join('\n')}\n${texts.join('')}`);
-  return answer.verdict === null || answer.verdict === 'always' ? 0 : 1;
+  answer.notes = answer.notes.map((note) => sources.placed(note));
+  return answer;
+}
+
+const print = (lines) => process.stdout.write(`${lines.map(plain).join('\n')}\n`);
+
+async function whole(words, answered) {
+  const sources = new Sources(words.paths, words.use);
+  const { why, outcome } = words;
+  const answer = await answered(sources, { examples: words.examples || words.json || words.draw, why, outcome });
+  if (words.draw) return draw(answer, sources);
+  if (words.run !== null) return onWorkers(words, answer, sources);
+  if (words.brief) print(briefOf(answer));
+  else if (words.json) process.stdout.write(`${JSON.stringify(jsonOf(answer, [...sources.files.keys()]))}\n`);
+  else print(linesOf(answer, sources.printer));
+  if (words.text && answer.texts) process.stdout.write(answer.texts.map((text) => `\n${text}`).join(''));
+  if (answer.named) return answer.named.outcomes.length ? 0 : 1;
+  return words.brief || answer.verdict === null || answer.verdict === 'always' ? 0 : 1;
+}
+
+// The source on real workers, beside the answer.
+async function onWorkers({ run: number, time }, answer, sources) {
+  if (!/^[1-9][0-9]{0,6}$/.test(number)) throw new Failure(2, '--run is how often, up to 9999999');
+  const rights = rightsOf(process.versions.node);
+  const source = [...sources.files.values()].join('\n').replace(/^export /gm, '');
+  const counts = await tried(source, Number(number), Number(time), rights === null ? [] : [...rights, '--allow-worker']);
+  const { isAllowed, lines } = seenBeside(answer, counts, Number(number));
+  print(lines);
+  return isAllowed ? 0 : 1;
+}
+
+function draw(answer, sources) {
+  const lines = drawn(answer, sources.printer);
+  if (lines === null) throw new Failure(1, 'there is no outcome to draw');
+  print(lines);
+  return 0;
+}
+
+// Whether the outcomes of the files are those of the file before.
+async function change(words, answered) {
+  const sources = new Sources(words.paths, words.use);
+  const before = await answered(new Sources([words.before], words.use), {});
+  const after = await answered(sources, { examples: true });
+  const { isAllowed, lines } = compared(before, after, sources.printer);
+  print(lines);
+  return isAllowed ? 0 : 1;
 }
 
 run('jslit-js', USAGE, main);

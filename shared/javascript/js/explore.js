@@ -4,8 +4,9 @@
 
 const { Layout } = require('./layout.js');
 const { Refusal } = require('./refusal.js');
-const { Texts, walk } = require('./texts.js');
+const { Texts, seeAccesses, walk } = require('./texts.js');
 const { keyOf } = require('./run.js');
+const { Interleavings } = require('./interleavings.js');
 const { each, plant } = require('./trees.js');
 const { seedsOf } = require('./thin.js');
 
@@ -59,6 +60,20 @@ function areNotified(ways) {
   return [...woken].every(([cell, times]) => times <= (notified.get(cell) ?? 0));
 }
 
+// What the interleavings say of outcomes behind a wake-up: those that one has are certain; where no interleaving has a data race the
+// others are impossible. {ended, isSequential (whether the outcomes are those of the interleavings)}.
+function known({ ended }, thin, space, isSown) {
+  const isSequential = space.isRaceFree && thin.isNone && !isSown;
+  const keyOf = (leaves) => leaves.map((leaf) => space.leaves.get(leaf)).join();
+  const kept = [];
+  for (const each of ended) {
+    const isCertain = space.ended.has(keyOf(each.leaves));
+    const isPerhaps = !isCertain && each.leaves.some((leaf) => leaf.isPerhaps);
+    if (!isPerhaps || !isSequential) kept.push({ ...each, isPerhaps, isInterleaved: isCertain });
+  }
+  return { ended: kept, isSequential };
+}
+
 class Exploring {
   // `ask` gives the report of a text: {registers, outcomes (lists of values), race}.
   constructor(program, name, ask) {
@@ -70,11 +85,17 @@ class Exploring {
     return this.answers.get(text);
   }
 
+  // The texts of the trees as they are: what is past a limit is refused.
+  texts(trees) {
+    const layout = new Layout(trees);
+    seeAccesses(trees, layout);
+    seeWays(trees);
+    return { layout, texts: new Texts(this.name, trees, layout) };
+  }
+
   // The outcomes of one round, each as the leaves of its ways, and the values that aren't known yet, for each agent.
   async round(trees) {
-    seeWays(trees);
-    const layout = new Layout(trees);
-    const texts = new Texts(this.name, trees, layout);
+    const { layout, texts } = this.texts(trees);
     const made = { layout, texts, ended: [], unknown: trees.list.map(() => new Map()), race: false };
     const reports = await Promise.all(
       texts.made.map(({ text }) => (text === '' ? { registers: [], outcomes: [[]], race: false } : this.report(text))));
@@ -94,7 +115,9 @@ class Exploring {
     const ways = trees.list.map((tree) => walk(tree, made.layout, made.texts.wakes, part, held.get(tree.name)));
     if (ways.some((way) => way === null)) return;
     ways.forEach((way, place) => way.unknown && made.unknown[place].set(way.unknown.join(), way.unknown));
-    if (ways.every(({ leaf }) => leaf && leaf.end !== 'stutter') && areNotified(ways)) made.ended.push(ways.map(({ leaf }) => leaf));
+    if (ways.every(({ leaf }) => leaf && leaf.end !== 'stutter') && areNotified(ways)) {
+      made.ended.push({ leaves: ways.map(({ leaf }) => leaf), values: ways.map((way) => way.values) });
+    }
   }
 
   // Rounds until nothing is unknown.
@@ -113,19 +136,21 @@ class Exploring {
     const mixed = new Set();
     for (let restart = 0; restart < MOST_RESTARTS; restart += 1) {
       const trees = plant(this.program, mixed);
+      const space = new Interleavings(trees, () => seeAccesses(trees, new Layout(trees))).go();
       let made = await this.close(trees);
-      let thin = seedsOf(this.program, trees);
+      let thin = seedsOf(this.program, trees, space);
+      const isSown = thin.seeds.length > 0;
       for (let times = 0; thin.seeds.length && times < MOST_SOWN; times += 1) {
         thin.seeds.forEach(({ agent, values }) => trees.list[agent].grow(values));
         made = await this.close(trees);
-        thin = seedsOf(this.program, trees);
+        thin = seedsOf(this.program, trees, space);
       }
       const broken = trees.setting.broken().filter((key) => !mixed.has(key));
-      if (broken.length === 0) return { ...made, trees, thin };
+      if (broken.length === 0) return { ...made, trees, thin, space, isSown, ...known(made, thin, space, isSown) };
       broken.forEach((key) => mixed.add(key));
     }
     throw new Refusal('the agents access one word in too many ways');
   }
 }
 
-module.exports = { Exploring };
+module.exports = { Exploring, areNotified };

@@ -3,6 +3,7 @@
 // over is looked at. Lines stay as they are. What no run could tell is refused here.
 
 const { CLASSES, FUNCTIONS, LOOPS, Scopes, namesIn, walk } = require('./scopes.js');
+const { Excerpts } = require('./excerpt.js');
 const { deadAt } = require('./liveness.js');
 const { parse } = require('./parse.js');
 const { Refusal } = require('./refusal.js');
@@ -215,7 +216,7 @@ function numbersIn(tree) {
   return [...numbers];
 }
 
-// {code, numbers (literals), outputs (names of functions that are called for what they print)}.
+// {code, numbers (literals), outputs (names of functions that are called for what they print), excerpts}.
 function instrument(source, file) {
   const { tree, isModule } = parse(source, file);
   const marks = new Marks(source, tree, file);
@@ -224,7 +225,8 @@ function instrument(source, file) {
   marks.all();
   if (isModule) marks.modules();
   const strict = isModule ? '"use strict";' : '';
-  return { code: strict + marks.edits.made(source), numbers: numbersIn(tree), outputs };
+  const code = strict + marks.edits.made(source);
+  return { code, numbers: numbersIn(tree), outputs, excerpts: new Excerpts(source, tree, marks.edits.list, strict.length) };
 }
 
 module.exports = { instrument };

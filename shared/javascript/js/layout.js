@@ -2,7 +2,7 @@
 // Where the bytes that the agents access stand in the block of a text, and what their values are there. docs/JAVASCRIPT.md has the
 // rules: initial contents by xor, and a word as one byte.
 
-const { BLOCK_LIMIT } = require('../limits.js');
+const { BLOCK_LIMIT } = require('./limits.js');
 const { Refusal } = require('./refusal.js');
 const { isRead, keyOf } = require('./run.js');
 const { each } = require('./trees.js');
@@ -47,15 +47,15 @@ class Cluster {
 }
 
 class Layout {
-  constructor({ list, setting }) {
+  // What nothing reads is left out, but for the events that are kept.
+  constructor({ list, setting }, kept = new Set()) {
     this.setting = setting;
     const nodes = [];
     list.forEach(({ root }) => each(root, (node) => nodes.push(node)));
     const all = nodes.filter(({ event }) => event.op !== 'choice');
     this.clusters = clustersOf(all.map(({ event }) => event));
     all.forEach((node) => this.clusterOf(node.event).nodes.push(node));
-    // What nothing reads is left out.
-    this.clusters = this.clusters.filter((cluster) => cluster.nodes.some(({ event }) => isRead(event.op)));
+    this.clusters = this.clusters.filter((cluster) => cluster.nodes.some(({ event }) => isRead(event.op) || kept.has(event)));
     for (const cluster of this.clusters) {
       cluster.initial = this.initial({ block: cluster.block, first: cluster.from, size: Math.min(4, cluster.to - cluster.from) });
       cluster.shrink();

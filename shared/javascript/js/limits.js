@@ -1,12 +1,9 @@
 'use strict';
-// The program's limits, as its own sources have them.
+// The limits of a text and of a test, by the names that the program's sources have for them.
 
-const fs = require('fs');
-const path = require('path');
-const texts = require('../limits.js');
+const { limits } = require('../limits.js');
 
-const FILE = path.resolve(__dirname, '..', '..', '..', 'crates', 'lit_paths', 'src', 'limits.rt');
-const CONSTANT = /^pub const ([A-Z_]+): [a-z0-9]+ = ([0-9_]+);/gm;
-const plans = [...fs.readFileSync(FILE, 'latin1').matchAll(CONSTANT)].map(([, name, number]) => [name, Number(number.replaceAll('_', ''))]);
-
-module.exports = { ...texts, ...Object.fromEntries(plans) };
+module.exports = {
+  ACCESS_LIMIT: limits.accesses, AGENT_LIMIT: limits.agents, BLOCK_LIMIT: limits.block, CHOICE_LIMIT: limits.choices,
+  COMBINATION_LIMIT: limits.combinations, IF_LIMIT: limits.ifs, REGISTERS: limits.registers, TEXT_LIMIT: limits.text,
+};

@@ -2,7 +2,7 @@
 // Variables that are dead at the head of a loop: each turn assigns them before it reads them, whatever way it goes, and so does
 // what comes after the loop. A variable is taken for alive wherever that isn't plain from the syntax.
 
-const { FUNCTIONS, LOOPS, childrenOf, namesIn, walk } = require('./scopes.js');
+const { FUNCTIONS, LOOPS, childrenOf, walk } = require('./scopes.js');
 
 const contains = (node, types) => {
   let found = false;

@@ -4,8 +4,9 @@
 // coercions, signs, ranges and errors mean is left to the engine: to real arrays over a block of the same length, and to arrays of
 // one element.
 
-// An access: {op, sc, noTear, block, first, size, value, expected, next}; `op` is read, write, exchange, cas or modify, `value` and
-// what is read are the bytes as a number, lowest byte first, and `next` is what a modify makes of what it read.
+// An access: {op, sc, noTear, block, first, size, value, expected, next, type, isBig}; `op` is read, write, exchange, cas or modify,
+// `value` and what is read are the bytes as a number, lowest byte first, and `next` is what a modify makes of what it read. `type` is the
+// type of array that shows them, and `isBig` says that a DataView has the highest byte first.
 const Block = globalThis.SharedArrayBuffer;
 const lengthOf = Object.getOwnPropertyDescriptor(Block.prototype, 'byteLength').get;
 const Typed = Object.getPrototypeOf(Int8Array);
@@ -44,8 +45,8 @@ const valueOf = (Real, bits) => {
   bits.forEach((word, place) => bytes.setUint32(4 * place, word, true));
   return new Real(bytes.buffer, 0, 1)[0];
 };
-const parts = (block, first, size, noTear) => (size === 8 ? [0, 4] : [0]).map((place) => (
-  { sc: false, noTear: noTear && size < 8, block: numberOf(block), first: first + place, size: Math.min(size, 4) }));
+const parts = (block, first, size, noTear, type, isBig = false) => (size === 8 ? [0, 4] : [0]).map((place) => (
+  { sc: false, noTear: noTear && size < 8, block: numberOf(block), first: first + place, size: Math.min(size, 4), type, isBig }));
 const plainRead = (...where) => parts(...where).map((at) => host.access({ op: 'read', ...at }));
 const plainWrite = (bits, ...where) => parts(...where).forEach((at, place) => host.access({ op: 'write', ...at, value: bits[place] }));
 
@@ -53,7 +54,8 @@ const plainWrite = (bits, ...where) => parts(...where).forEach((at, place) => ho
 const elementAt = (array, index) => {
   const Real = natives.get(nameOf(array)).Real;
   const size = Real.BYTES_PER_ELEMENT;
-  return { Real, size, where: [array.buffer, array.byteOffset + index * size, size, /^(Int|Uint)(8|16|32)Array$/.test(Real.name)] };
+  const isWhole = /^(Int|Uint)(8|16|32)Array$/.test(Real.name);
+  return { Real, size, where: [array.buffer, array.byteOffset + index * size, size, isWhole, Real.name] };
 };
 const read = (array, index) => {
   if (!host.isLive()) return array[index];
@@ -131,7 +133,7 @@ const methods = {
     const given = Object(source);
     const length = Math.max(0, integer(given.length));
     if (from + length > array.length) throw new RangeError('offset is out of bounds');
-    const { Real, size, where } = elementAt(array, from);
+    const { Real, where } = elementAt(array, from);
     // Of a typed array of the same type the bytes are copied, of anything else the elements.
     if (nameOf(given) !== Real.name || !host.isLive()) for (let index = 0; index < length; index += 1) write(array, from + index,
       given[index]);
@@ -211,7 +213,7 @@ for (const type of TYPES) {
     if (!isFollowed(this)) return get.call(this, at, little);
     const place = index(at);
     get.call(this, place);
-    const bits = plainRead(this.buffer, this.byteOffset + place, size, false);
+    const bits = plainRead(this.buffer, this.byteOffset + place, size, false, Real.name, !little);
     return valueOf(Real, little ? bits : turned(bits, size));
   } }[`get${type}`];
   DataView.prototype[`set${type}`] = { [`set${type}`](at, value, little) {
@@ -219,7 +221,7 @@ for (const type of TYPES) {
     const place = index(at);
     const bits = bitsOf(Real, value);
     get.call(this, place);
-    return plainWrite(little ? bits : turned(bits, size), this.buffer, this.byteOffset + place, size, false);
+    return plainWrite(little ? bits : turned(bits, size), this.buffer, this.byteOffset + place, size, false, Real.name, !little);
   } }[`set${type}`];
 }
 
@@ -236,7 +238,7 @@ const placeOf = (array, given, isWaited) => {
   real.load(array, place);
   const { Real, size, where } = elementAt(array, place);
   if (size === 8) host.refuse('Atomics on elements of 64 bits aren\'t followed: use an Int32Array if the values fit');
-  return { Real, at: { sc: true, noTear: true, block: numberOf(where[0]), first: where[1], size } };
+  return { Real, at: { sc: true, noTear: true, block: numberOf(where[0]), first: where[1], size, type: Real.name } };
 };
 const OPERATIONS = { add: (a, b) => a + b, sub: (a, b) => a - b, and: (a, b) => a & b, or: (a, b) => a | b, xor: (a, b) => a ^ b };
 const followed = {
@@ -264,8 +266,9 @@ const followed = {
     const [expected] = bitsOf(Real, whole(value) | 0);
     const limit = Number(timeout);
     if (host.access({ op: 'read', ...at }) !== expected) return 'not-equal';
-    if (timeout !== undefined && !Number.isNaN(limit) && limit !== Infinity && host.choose(2) === 1) return 'timed-out';
-    host.sleep(at);
+    const isTimed = timeout !== undefined && !Number.isNaN(limit) && limit !== Infinity;
+    if (isTimed && host.choose(2) === 1) return 'timed-out';
+    host.sleep({ ...at, isTimed });
     return 'ok';
   },
   notify(array, place, count) {

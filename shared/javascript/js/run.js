@@ -72,6 +72,7 @@ class Run {
     this.isPerhaps = false;
     this.sent = 0;
     this.ended = null;
+    this.idle = null;      // the last turn of a loop that left nothing behind: from which event on, and where it waits at its end
     this.value = undefined;
     this.refused = null;
     this.global = room.global;
@@ -82,7 +83,7 @@ class Run {
   // Where the code stands.
   line() {
     const found = /user:(.*?):(\d+):(\d+)/.exec(new Error().stack);
-    return found ? { file: found[1], line: Number(found[2]) } : null;
+    return found ? { file: found[1], line: Number(found[2]), column: this.role?.kind === 't262' ? null : Number(found[3]) } : null;
   }
 
   refuse(text, at = this.line()) {
@@ -101,7 +102,7 @@ class Run {
     if (this.role === null
       && this.setting.isAlone) this.refuse('main accesses shared memory after it started the agents: do that before, or in an agent');
     this.wake();
-    const event = { ...access, at: this.line() };
+    const event = { ...access, at: access.at ?? this.line() };
     if (typeof event.block === 'number') event.block = this.blockName(event.block);
     this.events.push(event);
     if (this.events.length > (this.setting.most ?? MOST)) this.tooLong();
@@ -147,7 +148,13 @@ class Run {
   // An agent that waits is woken by a notification; whether it was is looked at before its next access.
   sleep(at) {
     if (this.woken) this.wake();
-    this.woken = at;
+    this.woken = { ...at, at: this.line() };
+  }
+
+  // Where the agent waits now, or null: {cell, at, isTimed}.
+  sleeps() {
+    const at = this.woken;
+    return at && { cell: this.setting.cell(`notify ${at.block} ${at.first}`), at: at.at, isTimed: at.isTimed };
   }
 
   wake() {
@@ -158,7 +165,8 @@ class Run {
     const cell = this.setting.cell(`notify ${at.block} ${at.first}`);
     const turn = (this.wakes.get(cell) ?? 0) + 1;
     this.wakes.set(cell, turn);
-    if (this.access({ op: 'wake', turn, sc: true, noTear: true, block: 'notify', first: cell, size: 1 }) === 0) this.end('stutter');
+    const wake = { op: 'wake', turn, sc: true, noTear: true, block: 'notify', first: cell, size: 1, at: at.at, isTimed: at.isTimed };
+    if (this.access(wake) === 0) this.end('stutter');
   }
 
   notify(at, count) {
@@ -172,7 +180,8 @@ class Run {
     if (!this.setting.hasMail) return;
     const cell = this.setting.cell(`mail ${this.role.name} ${this.sent}`);
     this.sent += 1;
-    this.access({ op: 'write', sc: true, noTear: true, block: 'mail', first: cell, size: 1, value: this.program.payload(data) });
+    this.access({ op: 'write', sc: true, noTear: true, block: 'mail', first: cell, size: 1, value: this.program.payload(data),
+      isExit: data.type === 'exit' });
   }
 
   // What is called at each head of a loop, with what gives its variables: a turn that left nothing behind ends the run, since an
@@ -195,6 +204,7 @@ class Run {
       else if (before !== undefined) {
         if (before.same !== this.same) this.program.note(this.line(),
           'this loop writes what it reads, and other accesses of that are plain: two of its turns are followed');
+        this.idle = { from: before.events, sleeps: this.sleeps() };
         this.woken = null;
         this.end('stutter');
       }

@@ -182,6 +182,31 @@ function widest(root, part) {
   return null;
 }
 
+// The accesses on the longest way of a tree that are in a text.
+function longest(node, isIn) {
+  if (!node || node.leaf) return [];
+  const kids = node.kids ? [...node.kids.values()] : [node.next];
+  const rest = kids.map((kid) => longest(kid, isIn)).reduce((most, each) => (each.length > most.length ? each : most), []);
+  return isIn(node.event) ? [node.event, ...rest] : rest;
+}
+
+function tooLong(list, measures) {
+  const each = measures.map(({ accesses }, place) => `${list[place].name} ${accesses}`).join(', ');
+  const { at, times } = busiest(measures.flatMap(({ events }) => events));
+  return new Refusal(`the agents make more than ${ACCESS_LIMIT} accesses together (${each}), this line ${times} of them: `
+    + 'take fewer agents, turns or accesses', at);
+}
+
+// Some text has the longest ways of all agents: where these are too long it isn't begun.
+function seeAccesses({ list }, layout) {
+  const wakes = new Wakes(list);
+  const measures = list.map(({ root, name }) => {
+    const events = longest(root, (event) => event.op !== 'choice' && !layout.isLeftOut(event) && !wakes.isBeyond(event, name));
+    return { accesses: events.length, events };
+  });
+  if (measures.reduce((sum, { accesses }) => sum + accesses, 0) > ACCESS_LIMIT) throw tooLong(list, measures);
+}
+
 class Texts {
   constructor(name, trees, layout) {
     Object.assign(this, { name, trees, layout, wakes: new Wakes(trees.list), made: [] });
@@ -219,18 +244,11 @@ class Texts {
     if (measures.reduce((sum, { accesses }) => sum + accesses, 0) > ACCESS_LIMIT) {
       const node = writers.find((writer) => writer.modifies)?.modifies ?? first(worst(({ accesses }) => accesses));
       if (node) return node;
-      throw this.tooLong(measures);
+      throw tooLong(list, measures);
     }
     if (measures.reduce((all, { paths }) => all * paths, 1) > COMBINATION_LIMIT
       || text.length > TEXT_LIMIT) return first(worst((place) => measures[place].paths));
     return null;
-  }
-
-  tooLong(measures) {
-    const longest = measures.map(({ accesses }, place) => `${this.trees.list[place].name} ${accesses}`).join(', ');
-    const { at, times } = busiest(measures.flatMap(({ events }) => events));
-    return new Refusal(`the agents make more than ${ACCESS_LIMIT} accesses together (${longest}), this line ${times} of them: `
-      + 'take fewer agents, turns or accesses', at);
   }
 
   text(codes) {
@@ -256,7 +274,7 @@ function walk(tree, layout, wakes, part, registers) {
   let place = 0;
   const next = (event) => layout.value(event, registers[place++] ?? 0);
   for (let node = tree.root; ;) {
-    if (node.leaf) return { leaf: node.leaf, notified };
+    if (node.leaf) return { leaf: node.leaf, notified, values };
     const { event, kids } = node;
     if (wakes.isBeyond(event, tree.name)) return { isStuck: true };
     if (!kids) {
@@ -273,4 +291,4 @@ function walk(tree, layout, wakes, part, registers) {
   }
 }
 
-module.exports = { Texts, each, walk };
+module.exports = { Part, Texts, Writer, each, linesOf, seeAccesses, walk };

@@ -23,8 +23,8 @@ const synchronizes = (write, read) => write.sc && read.sc && isSame(write, read)
 // Reads as nodes of a graph: {agent, event, value, writes (what its agent writes from there on), path}. `path` are the values that
 // lead to a read whose value isn't known there; it is null of the others.
 class Reads {
-  constructor(program, { list, setting }) {
-    Object.assign(this, { program, setting, nodes: new Map(), isWhole: true, seen: new Map() });
+  constructor(program, { list, setting }, space) {
+    Object.assign(this, { program, setting, space, nodes: new Map(), isWhole: true, seen: new Map() });
     list.forEach(({ root }, agent) => this.known(root, agent, [], []));
     list.forEach((tree, agent) => this.strange(tree, agent));
   }
@@ -147,6 +147,17 @@ class Reads {
     return every || some;
   }
 
+  // Whether a ring may be of these reads. Where no interleaving has a data race, what comes before a ring is an interleaving: so its agents
+  // stand before these reads at once. Two of the reads don't synchronize, since a ring of which one doesn't is one in happens-before.
+  isRing(steps) {
+    const open = steps.filter(({ isOpen }) => isOpen);
+    return this.space.isRaceFree ? new Set(open.map(({ other }) => other)).size > 1 : open.length > 0;
+  }
+
+  standTogether(node, others) {
+    return !this.space.isRaceFree || others.every((other) => this.space.standTogether(node, other));
+  }
+
   // The reads of strange values that are in a ring; `gives` says which writes give which reads their value. An execution has one run
   // of each agent, and a ring that comes to an agent twice has a shorter one in it: so each agent is in it once.
   inRings(gives) {
@@ -158,20 +169,22 @@ class Reads {
     const next = new Map(
       nodes.map((node) => [node, nodes.filter((other) => other.agent !== node.agent).map((other) => leads(node, other)).filter(Boolean)]));
     let steps = 0;
-    const comesBack = (node, start, agents, isOpen) => next.get(node).some((to) => {
+    const comesBack = (node, start, ring) => next.get(node).some((to) => {
       if ((steps += 1) > MOST_STEPS) return false;
-      if (to.other === start) return isOpen || to.isOpen;
-      return !agents.has(to.other.agent) && comesBack(to.other, start, new Set(agents).add(to.other.agent), isOpen || to.isOpen);
+      const more = [...ring, to];
+      if (to.other === start) return this.isRing(more);
+      return ring.every(({ other }) => other.agent !== to.other.agent) && to.other.agent !== start.agent
+        && this.standTogether(to.other, [start, ...ring.map(({ other }) => other)]) && comesBack(to.other, start, more);
     });
-    const found = nodes.filter((node) => node.path !== null && comesBack(node, node, new Set([node.agent]), false));
+    const found = nodes.filter((node) => node.path !== null && comesBack(node, node, []));
     this.isWhole &&= steps <= MOST_STEPS;
     return found;
   }
 }
 
 // {seeds: [{agent, values}] to grow the trees by, notes}.
-function seedsOf(program, trees) {
-  const reads = new Reads(program, trees);
+function seedsOf(program, trees, space) {
+  const reads = new Reads(program, trees, space);
   const found = reads.inRings((write, read) => reads.gives(write, read));
   const isProbe = ({ value, event }) => PROBES.includes(value) && !program.numbers.some((number) => cut(number, event.size) === value);
   const copied = found.filter(isProbe);
@@ -183,7 +196,8 @@ function seedsOf(program, trees) {
   } else if (!reads.isWhole && reads.inRings(() => true).length) {
     notes.push('values out of thin air were looked for in part: not all that the source names could be tried at each read');
   }
-  return { seeds: found.filter((each) => !isProbe(each)).map(({ agent, path }) => ({ agent, values: path })), notes };
+  const seeds = found.filter((each) => !isProbe(each)).map(({ agent, path }) => ({ agent, values: path }));
+  return { seeds, notes, isNone: found.length === 0 && notes.length === 0 };
 }
 
 module.exports = { seedsOf };

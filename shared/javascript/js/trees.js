@@ -25,6 +25,11 @@ class Program {
     return this.scripts.get(key);
   }
 
+  // The piece of code of an access in a file, or null.
+  excerpt({ file, line, column }) {
+    return column === null ? null : this.scripts.get(`${file}\n1\n${this.files.get(file)}`)?.excerpts.at(line, column) ?? null;
+  }
+
   instrumented(file, source, line) {
     try {
       const made = instrument(source, file);
@@ -99,8 +104,8 @@ class Tree {
       } : (kid) => (node.next ??= kid);
     }
     if (run.ended === 'pause') return;
-    const { ended, value, logs, failed, isPerhaps, wakes } = run;
-    put({ leaf: { end: ended, value, logs, failed, isPerhaps, wakes } });
+    const { ended, value, logs, failed, isPerhaps, wakes, idle } = run;
+    put({ leaf: { end: ended, value, logs, failed, isPerhaps, wakes, idle } });
   }
 }
 

@@ -1,8 +1,8 @@
-"""jslit-atomize [--race] [--all] [--time S] [--jobs N] [--program PROGRAM] FILE
+"""jslit-atomize [--race | --verdict] [--all] [--time S] [--jobs N] [--program PROGRAM] FILE
 
-Which accesses of the litmus test in FILE have to go through Atomics, so that the verdict is what it is where all of them do,
-or with --race so that there is no data race. Each answer is one of the program's, by default jslit, on the text with some of
-its accesses through Atomics and the others plain, whatever they are in FILE.
+Which accesses of the litmus test in FILE have to go through Atomics, so that the verdict is what it is where all of them do, and there
+is no data race; where there is one even with all of them, it says so, and keeps the verdict. Each answer is one of the program's, by
+default jslit, on the text with some of its accesses through Atomics and the others plain, whatever they are in FILE.
 
 From all of them on, one access is given up at a time in the order of the text, until none can be given up: what is left is
 such a set, and others may be smaller. With --all it looks at all sets by their size, and says every one of the least size.
@@ -12,7 +12,8 @@ It prints the text with a comment on each line that needs Atomics, on each that 
 each DataView access; where there are several sets, with their numbers. Comments at its end say the rest, and the number of runs.
 
 Options:
-  --race             asks for no data race, in place of the verdict
+  --race             asks for no data race alone
+  --verdict          asks for the verdict alone
   --all              every set of the least size
   --time S           how many seconds all runs together may take [default: 60]
   --jobs N           how many runs at a time with --all, 1 to 9999 [default: as many as there are cores]
@@ -47,7 +48,9 @@ from litmus.words import Words  # noqa: E402
 
 def parsed(given):
     parser = Words("jslit-atomize", __doc__)
-    parser.add_argument("--race", action="store_true")
+    which = parser.add_mutually_exclusive_group()
+    which.add_argument("--race", dest="asked", action="store_const", const="race", default="both")
+    which.add_argument("--verdict", dest="asked", action="store_const", const="verdict")
     parser.add_argument("--all", action="store_true")
     parser.add_time(60)
     parser.add_jobs()
@@ -82,24 +85,24 @@ def print_text(accesses, sets):
 
 def told(question, sets, whole):
     """What is said of all sets, below the text."""
-    count = len(question.whole)
-    asked = "there is no data race" if question.race else f"the verdict is {question.wanted}"
+    count, asked = len(question.whole), question.wanted()
     if not sets:
         return [f"With all {count} loads and stores through Atomics there is a data race" +
                 (", and with any set of them." if whole else ": from there on none can be given up.")]
+    left = [f"A data race is left even with all {count} of them."] if question.left else []
     if not whole:
         return [f"With {len(sets[0])} of {count} loads and stores through Atomics {asked}" +
-                ("." if question.race else ", as with all of them."),
-                f"These are {spoken(sets[0])}; none of them can be given up." if sets[0] else "So none of them needs Atomics."]
-    fewer = ", and with fewer there is one." if question.race else ", as with all of them; with fewer it is another."
+                (", as with all of them." if question.verdict else "."),
+                f"These are {spoken(sets[0])}; none of them can be given up." if sets[0] else "So none of them needs Atomics.", *left]
+    fewer = ", as with all of them; with fewer that isn't so." if question.verdict else ", and with fewer there is one."
     said = f"With {len(sets[0])} of {count} loads and stores through Atomics {asked}" + (fewer if sets[0] else ".")
-    return [said, f"Sets of this size: {len(sets)}."] + [f"Set {place}: {spoken(lines)}." for place, lines in enumerate(sets, 1)]
+    return [said, f"Sets of this size: {len(sets)}.", *(f"Set {place}: {spoken(lines)}." for place, lines in enumerate(sets, 1)), *left]
 
 
 def searched(program, data, words):
     program.report(words.file, data, "--quick")  # where the text is refused, this says so
-    accesses = Accesses(data)
-    question = Question(program, words.file, accesses, words.race)
+    accesses = Accesses(words.file, data)
+    question = Question(program, words.file, accesses, words.asked)
     if not words.all:
         found = given_up(question)
         return accesses, question, [] if found is None else [found]

@@ -73,7 +73,7 @@ def parsed(given):
 def line_of(result):
     said = (f"FAILED: {result.fault}" if result.fault
             else f"verdict {result.verdict}, outcomes {result.outcomes}, data race {result.data_race}, {result.seconds:.3f} s")
-    notes = "".join(f"\n  note, line {note.line}: {note.said}" for note in result.notes or [])
+    notes = "".join(f"\n  note, line {note['line']}: {note['said']}" for note in result.notes or [])
     return f"{printed_name(result.file)}: {said}{', recorded' if result.recorded else ''}{notes}"
 
 

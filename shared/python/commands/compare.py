@@ -6,6 +6,8 @@ make the one of the other, as far as these tests show. Each outcome is one of th
 AFTER adds are printed, each with its example. Agents and accesses may stand in another order; the registers that the agents
 write have to be the same.
 
+Of two files of JavaScript, FILE.js, it compares what their agents return or print, by jslit-js.
+
 Of a FOLDER it compares each pair of files NAME.before.lit and NAME.after.lit, in folders below it too, and prints a line for
 each, with what is added below it, and last `N allowed, M not allowed`, and how many can't be compared.
 
@@ -40,9 +42,9 @@ from litmus import statuses  # noqa: E402
 from litmus.answers import Clock, Program  # noqa: E402
 from litmus.comparison import Comparison, lines_of, outcomes_of  # noqa: E402
 from litmus.ends import given_text, run, shown  # noqa: E402
-from litmus.program import built  # noqa: E402
+from litmus.program import TOP, built  # noqa: E402
 from litmus.runs import files_in, printed_name  # noqa: E402
-from litmus.text import Fault  # noqa: E402
+from litmus.fault import Fault  # noqa: E402
 from litmus.words import Words  # noqa: E402
 
 ALLOWED, NOT_ALLOWED, DIFFER, REST = "allowed", "not allowed", "differ", "rest"
@@ -115,6 +117,10 @@ def print_folder(path, limit, folder):
 
 def main(given):
     words = parsed(given)
+    if len(words.paths) == 2 and all(each.endswith(".js") for each in words.paths):
+        named = ["--program", words.program] if words.program else []
+        command = str(TOP / "bin" / "jslit-js")
+        os.execv(command, [command, "--limit", f"{words.limit:g}", *named, "--before", *words.paths])
     if len(words.paths) == 1:
         return print_folder(built(words.program), words.limit, words.paths[0])
     texts = texts_in(*words.paths)

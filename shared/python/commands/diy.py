@@ -58,7 +58,7 @@ from litmus.answers import Clock, Late, Program  # noqa: E402
 from litmus.ends import run, shown  # noqa: E402
 from litmus.program import built  # noqa: E402
 from litmus.runs import spoken  # noqa: E402
-from litmus.text import Fault  # noqa: E402
+from litmus.fault import Fault  # noqa: E402
 from litmus.words import Words  # noqa: E402
 
 Told = collections.namedtuple("Told", "cycle name text answer")

@@ -12,7 +12,7 @@ Options:
 Exit status:
   2   the words are wrong
   4   the port can't be had
-  70  there is no program, or no python3
+  70  there is no program, no python3, or no node
 
 Ctrl-C or another signal ends it, with status 0 once it serves.
 
@@ -22,6 +22,7 @@ Example:
 import argparse
 import pathlib
 import re
+import shutil
 import sys
 
 sys.dont_write_bytecode = True
@@ -29,8 +30,8 @@ sys.path.insert(0, str(pathlib.Path(__file__).resolve().parent.parent))
 from litmus import statuses  # noqa: E402
 from litmus.ends import run  # noqa: E402
 from litmus.processes import Stopped  # noqa: E402
-from litmus.program import built, built_why  # noqa: E402
-from litmus.text import Fault  # noqa: E402
+from litmus.program import built, built_text, built_why  # noqa: E402
+from litmus.fault import Fault  # noqa: E402
 from litmus.words import Words  # noqa: E402
 from web.server import Server  # noqa: E402
 
@@ -45,13 +46,15 @@ def main(given):
     parser = Words("jslit-page", __doc__)
     parser.add_argument("--port", type=port_of, default=8460)
     words = parser.parse_args(given)
+    if shutil.which("node") is None:
+        raise Fault("node isn't there, which answers; Debian's package is nodejs", statuses.NO_PROGRAM)
     try:
         # Before the programs are built, so that nobody waits for a port that can't be had.
         server = Server(words.port)
     except OSError as error:
         raise Fault(f"port {words.port}: {error.strerror or error}", statuses.DEVICE) from error
     with server:
-        server.answer_by(built(words.program), built_why())
+        server.answer_by(built_text(), built(words.program), built_why())
         print(f"http://127.0.0.1:{server.server_port}/", flush=True)
         try:
             server.serve_forever()

@@ -1,6 +1,6 @@
 """A cycle of edges: what it may be, its agents and its cells."""
 from cycles.edges import Access, Edge, edge_of, is_order, word_of
-from litmus.text import Fault
+from litmus.fault import Fault
 
 PLAIN = ("P", 1)
 

@@ -2,7 +2,7 @@
 import collections
 import re
 
-from litmus.text import Fault
+from litmus.fault import Fault
 
 # An access: `direction` is W or R, `kind` P (plain), A (through Atomics) or D (a DataView), `size` 1 or 2.
 Access = collections.namedtuple("Access", "direction kind size")

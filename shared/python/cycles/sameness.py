@@ -1,16 +1,13 @@
 """Whether two tests are the same up to names: those of agents, registers and bytes, and of the numbers that are stored in a byte."""
 import itertools
-import re
 
-from litmus.text import If
-
-MEMBER = re.compile(r"(\w+)\.(r[0-7])==(\d+)")
+from litmus.told import If
 
 
 def members(condition):
     """The comparisons of a condition that asks for one outcome, or None."""
-    found = [MEMBER.fullmatch("".join(part.split())) for part in condition.split("&&")]
-    return [(each[1], each[2], int(each[3])) for each in found] if all(found) else None
+    found = condition.get("all", [condition])
+    return [(each["agent"], f"r{each['register']}", each["number"]) for each in found] if all(each.get("equal") for each in found) else None
 
 
 def cells(test):

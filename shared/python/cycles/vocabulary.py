@@ -7,7 +7,7 @@ from cycles.edges import ATOM, SIZES, Access, Edge, edge_of
 from cycles.families import normal
 from cycles.sameness import form_of
 from cycles.writing import Writer
-from litmus.text import Fault, read_test
+from litmus.fault import Fault
 
 EVERY = ["Pod**", "Pos**", "Rfe", "Fre", "Coe"]
 
@@ -60,7 +60,7 @@ def cycles(edges, most):
     found = dict.fromkeys(normal(walk) for walk in closed_walks(edges, most) if fault_of(walk) is None)
     forms, kept = set(), []
     for cycle in sorted(found, key=lambda cycle: (len(cycle), cycle)):
-        form = form_of(read_test(Writer(cycle).text()))
+        form = form_of(Writer(cycle).test())
         if form not in forms:
             forms.add(form)
             kept.append(cycle)

@@ -5,7 +5,8 @@ from cycles.cycle import agents, cells, steps_to_see
 from cycles.edges import word_of
 from cycles.families import name_of, word_of_name
 from litmus import limits
-from litmus.text import Fault
+from litmus.fault import Fault
+from litmus.told import Event, Test
 
 NAMES = "ABCDEFGHIJKLMNOPQRSTUVWXYZ"
 
@@ -57,7 +58,7 @@ class Writer:
     """The lines of a cycle's test, and the members of its condition."""
 
     def __init__(self, edges):
-        self.edges, self.lines, self.members, self.count = edges, [], [], 0
+        self.edges, self.lines, self.members, self.agents = edges, [], [], []
         self.cells = [Cell(edges, accesses) for accesses in cells(edges)]
         self.width = max(edge.source.size for edge in edges)
         for agent in agents(edges):
@@ -72,20 +73,34 @@ class Writer:
         return number, self.cells[number].values[place]
 
     def write_agent(self, accesses):
-        name, register = NAMES[self.count % len(NAMES)], 0
-        self.count += 1
+        name, register, events = NAMES[len(self.agents) % len(NAMES)], 0, []
+        self.agents.append((name, events))
         self.lines.append(f"agent {name}")
         for access, number, value in accesses:
-            self.lines.append(line_of(access, number * self.width, value, f"r{register}"))
-            if access.direction == "R":
-                self.members.append(f"{name}.r{register} == {value}")
+            first, reads = number * self.width, access.direction == "R"
+            self.lines.append(line_of(access, first, value, f"r{register}"))
+            events.append(Event(f"r{register}" if reads else None, access.kind == "A", first, access.size, None if reads else value,
+                                number=len(self.lines) + 2, whole=access.kind != "D"))
+            if reads:
+                self.members.append((name, register, value))
                 register += 1
-        if register > limits.REGISTERS or self.count > limits.AGENTS:
+        if register > limits.REGISTERS or len(self.agents) > limits.AGENTS:
             raise Fault(f"{self.cycle()}: it takes more than {limits.AGENTS} agents, or more than {limits.REGISTERS} registers of one")
 
     def cycle(self):
         return " ".join(map(word_of, self.edges))
 
+    def name(self):
+        return word_of_name(name_of(self.edges))
+
+    def size(self):
+        return self.width * len(self.cells)
+
     def text(self):
-        block = f"bytes {self.width * len(self.cells)}"
-        return "\n".join([f"test {word_of_name(name_of(self.edges))}", block, *self.lines, f"check {' && '.join(self.members)}", ""])
+        condition = " && ".join(f"{agent}.r{register} == {value}" for agent, register, value in self.members)
+        return "\n".join([f"test {self.name()}", f"bytes {self.size()}", *self.lines, f"check {condition}", ""])
+
+    def test(self):
+        """The test that the text spells."""
+        asked = [{"agent": agent, "register": register, "equal": True, "number": value} for agent, register, value in self.members]
+        return Test(self.name(), self.size(), self.agents, {"all": asked} if len(asked) > 1 else asked[0])

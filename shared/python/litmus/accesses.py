@@ -1,5 +1,5 @@
 """The accesses of a text, of which some may go through Atomics or not, and the text with some of them doing so."""
-from litmus.text import If, read_test
+from litmus.told import If, test_of
 
 
 def flat(statements):
@@ -29,9 +29,9 @@ class Accesses:
     """Accesses by the number of their line: `free` may go through Atomics or not, `views` are DataView calls, which can't, and
     `fixed` exchanges, which do in any case. Each in the order of the text."""
 
-    def __init__(self, data):
+    def __init__(self, name, data):
         self.lines = data.decode("latin-1").split("\n")
-        found = {access.number: access for _, body in read_test("\n".join(self.lines)).agents for access in flat(body)}
+        found = {access.number: access for _, body in test_of(name, data).agents for access in flat(body)}
         self.free = {number: found[number] for number in sorted(found) if typed(found[number])}
         self.views = [number for number in sorted(found) if not found[number].whole]
         self.fixed = [number for number in sorted(found) if found[number].whole and number not in self.free]

@@ -7,7 +7,7 @@ from litmus.ends import shown
 from litmus.processes import Run
 from litmus.program import out_of_memory, silent
 from litmus.report import read_report
-from litmus.text import Fault
+from litmus.fault import Fault
 
 WHOLE = range(1 << 62)  # the places of all outcomes
 NONE = range(0)

@@ -4,7 +4,7 @@ import sys
 
 from litmus import limits, statuses
 from litmus.processes import Stopped, end_by, watch_signals
-from litmus.text import Fault
+from litmus.fault import Fault
 
 
 def shown(name):

@@ -1,27 +1,36 @@
 """Sets of accesses that are enough where they alone go through Atomics: for the verdict that a text has with all of them doing
-so, or for no data race. Whether a set is enough is asked of the program each time: nothing is taken to follow for a larger one."""
+so, for no data race, or for both. Whether a set is enough is asked of the program each time: nothing is taken to follow for a larger
+one."""
 import concurrent.futures
 import itertools
 
 
 class Question:
-    """What is asked of a text with some of its accesses through Atomics; each such text is asked once."""
+    """What is asked of a text with some of its accesses through Atomics; each such text is asked once. `verdict` is that of the text with
+    all of them, or None where it isn't asked for, and `race` whether no data race is asked for: where it is not asked for alone, and the
+    text with all of them has one, it is `left`."""
 
-    def __init__(self, program, name, accesses, race):
-        self.program, self.name, self.accesses, self.race, self.known = program, name, accesses, race, {}
+    def __init__(self, program, name, accesses, asked):
+        self.program, self.name, self.accesses, self.known = program, name, accesses, {}
         self.whole = tuple(accesses.free)
-        self.wanted = "no" if race else self.answer(self.whole)
+        self.verdict = None if asked == "race" else self.answer(self.whole, "verdict")
+        self.left = asked == "both" and self.answer(self.whole, "race") == "yes"
+        self.race = asked != "verdict" and not self.left
 
-    def answer(self, lines):
+    def answer(self, lines, what):
         """The verdict, or whether there is a data race."""
-        if lines not in self.known:
-            data = self.accesses.text_with(lines)
-            report = self.program.report(self.name, data, *([] if self.race else ["--quick"]))
-            self.known[lines] = report.other["race" if self.race else "verdict"]
-        return self.known[lines]
+        if (lines, what) not in self.known:
+            report = self.program.report(self.name, self.accesses.text_with(lines), *(["--quick"] if what == "verdict" else []))
+            self.known[lines, what] = report.other[what]
+        return self.known[lines, what]
 
     def enough(self, lines):
-        return self.answer(tuple(lines)) == self.wanted
+        lines = tuple(lines)
+        return (self.verdict is None or self.answer(lines, "verdict") == self.verdict) and (not self.race or self.answer(lines, "race") == "no")
+
+    def wanted(self):
+        """What is asked for, in words."""
+        return " and ".join(filter(None, [self.verdict and f"the verdict is {self.verdict}", self.race and "there is no data race"]))
 
 
 def given_up(question):

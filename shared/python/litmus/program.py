@@ -1,6 +1,5 @@
 """The programs that commands run, and the version of all."""
 import pathlib
-import re
 import signal
 import subprocess
 import sys
@@ -8,18 +7,17 @@ import sys
 from litmus import statuses
 from litmus.ends import shown
 from litmus.processes import RUNNING
-from litmus.text import Fault
+from litmus.fault import Fault
 
 TOP = pathlib.Path(__file__).resolve().parent.parent.parent.parent
 JSLIT, WHY = TOP / "bin" / "jslit", TOP / "bin" / "jslit-why"
-INSTALLED, MADE = TOP / "libexec" / "jslit", TOP / "crates" / "jslit_cli" / "out" / "jslit_cli"
-WHY_INSTALLED, WHY_MADE = TOP / "libexec" / "jslit-why", TOP / "crates" / "jslit_why" / "out" / "jslit_why"
-SOURCE = TOP / "crates" / "lit_words" / "src" / "version.rt"
+# Of each program the crate that it is built from.
+CRATES = {"jslit": "jslit_cli", "jslit-text": "jslit_text", "jslit-why": "jslit_why"}
 
 
 def version():
-    """The version and the toolchain's line, as the program's own sources have them."""
-    return re.search(r'"(\d+\.\d+\.\d+)\n(.*)";', SOURCE.read_text()).groups()
+    """The version and the toolchain's line, as the program prints them."""
+    return (TOP / "docs" / "help" / "version.txt").read_text().split("\n")[:2]
 
 
 def silent(path, why):
@@ -49,8 +47,14 @@ class Awaited:
             self.child.kill()
 
 
-def own(installed, made, name):
+def places(name):
+    """Where a program of this repository stands once it is installed, and once it is built."""
+    return TOP / "libexec" / name, TOP / "crates" / CRATES[name] / "out" / CRATES[name]
+
+
+def own(name):
     """A program of this repository, proved and built first where that is due: so it isn't asked anew before each run."""
+    installed, made = places(name)
     if installed.exists():
         return str(installed)
     try:
@@ -65,7 +69,7 @@ def own(installed, made, name):
 def built(named):
     """The program named, if it is one and runs, or else that of bin/jslit."""
     if not named or pathlib.Path(named).resolve() == JSLIT:
-        return own(INSTALLED, MADE, "jslit")
+        return own("jslit")
     program = pathlib.Path(named).resolve()
     try:
         status = Awaited(program, "--help").status
@@ -76,11 +80,11 @@ def built(named):
     return str(program)
 
 
-def own_why():
-    """Where the program of bin/jslit-why stands once it is built."""
-    return WHY_INSTALLED if WHY_INSTALLED.exists() else WHY_MADE
+def built_text():
+    """The program of bin/jslit-text."""
+    return own("jslit-text")
 
 
 def built_why():
     """The program of bin/jslit-why."""
-    return own(WHY_INSTALLED, WHY_MADE, "jslit-why")
+    return own("jslit-why")

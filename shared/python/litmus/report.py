@@ -1,7 +1,7 @@
 """What the program prints, read line after line: of many outcomes a part alone is kept."""
 import re
 
-from litmus.text import Fault
+from litmus.fault import Fault
 
 OUTCOME = re.compile(rb"(?:(met|unmet) )?outcome((?: \w+\.r[0-7]=\d+)*)")
 FROM = re.compile(rb"  from (\S+)((?: \S+)+)")

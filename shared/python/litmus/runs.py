@@ -54,10 +54,9 @@ class Result:
         return "\t".join(shown(getattr(self, field)) for field in FIELDS)
 
     def json(self):
-        kept = {field: getattr(self, field) for field in FIELDS}
+        kept = {field: getattr(self, field) for field in (*FIELDS, "notes")}
         if self.data_race is not None:
             kept["data_race"] = self.data_race == "yes"
-        kept["notes"] = None if self.notes is None else [note._asdict() for note in self.notes]
         return json.dumps({"form": FORM_OF_JSON, "jslit": version()[0], **{name: value for name, value in kept.items() if value is not None}})
 
 
@@ -145,8 +144,8 @@ class Runs:
         name, expected = NAME.search(text), EXPECT.findall(text)
         result.test = name and name[1].decode("ascii")
         fault = self.run(text, result)
-        if self.noted and not fault:
-            result.notes = noting.noted(self.program, [], text, self.limit)
+        if self.noted and not fault and not file.endswith(".js"):
+            result.notes = noting.noted(self.program, text, self.limit)
         if fault and not expected:
             return result.fails(fault)
         wanted = FORM.fullmatch(expected[0]) if len(expected) == 1 else None
@@ -164,8 +163,9 @@ class Runs:
     def run(self, text, result):
         """Runs the program on a text; what is wrong, or None."""
         begun = time.monotonic()
+        of_javascript = [TOP / "bin" / "jslit-js", "--program", self.program, "--brief", "--", result.file]
         try:
-            with Run([self.program], text, self.limit) as run:
+            with Run(of_javascript if result.file.endswith(".js") else [self.program], text, self.limit) as run:
                 first, last = beginning_and_end(run.out)
         except OSError as error:
             return error.strerror

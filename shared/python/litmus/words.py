@@ -7,7 +7,7 @@ from litmus import statuses
 from litmus.ends import shown
 from litmus.help import Help
 from litmus.program import version
-from litmus.text import Fault
+from litmus.fault import Fault
 
 
 class Words(argparse.ArgumentParser):

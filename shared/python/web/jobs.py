@@ -1,16 +1,17 @@
-"""Runs of answer.py, a few at a time: each ends by itself, at its limit of time, or when nobody waits for it any more."""
+"""Runs of page_answer.js, a few at a time: each ends by itself, at its limit of time, or when nobody waits for it any more."""
 import json
 import os
 import pathlib
 import selectors
 import socket
-import sys
 import threading
 
 from litmus.processes import Run, Stopped
-from web.limits import ANSWER, PATIENCE, RUNS, SECONDS, stopped
+from web.limits import ANSWER, HEAP, PATIENCE, RUNS, SECONDS, late
 
-ANSWERER = pathlib.Path(__file__).resolve().parent / "answer.py"
+ANSWERER = pathlib.Path(__file__).resolve().parent.parent.parent / "javascript" / "page_answer.js"
+# What may be asked for, with the names of its values: as ANSWERS there.
+KINDS = {"report": ("skip",), "quick": (), "schedule": ("turns",), "text": ("examples",), "picture": ("sources", "outcome"), "why": ("outcomes",), "race": ()}
 PIECE = 65536
 
 
@@ -23,22 +24,22 @@ class Gone(Exception):
 
 
 class Jobs:
-    def __init__(self, program, why):
-        self.program, self.why, self.turns = program, why, threading.BoundedSemaphore(RUNS)
+    def __init__(self, programs):
+        self.programs, self.turns = programs, threading.BoundedSemaphore(RUNS)
 
     def answer(self, kind, given, data, client):
-        """What answer.py says, as bytes of JSON."""
+        """What page_answer.js says, as bytes of JSON."""
         if not self.turns.acquire(timeout=PATIENCE):
             raise Busy
         try:
-            with Run([sys.executable, "-I", str(ANSWERER), self.program, self.why, kind, *given], data, SECONDS) as run:
+            with Run(["node", f"--max-old-space-size={HEAP}", str(ANSWERER), *self.programs, kind, *given], data, SECONDS) as run:
                 said = taken(run.out, client)
         except Stopped as end:
             raise Gone from end
         finally:
             self.turns.release()
         if run.late:
-            return json.dumps(stopped("time")).encode()
+            return json.dumps(late()).encode()
         return said if said.endswith(b"}\n") else json.dumps({"kind": "failed", "said": "there is no answer"}).encode()
 
 

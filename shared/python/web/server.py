@@ -9,9 +9,8 @@ import time
 import urllib.parse
 
 from litmus import limits
-from web.answer import ANSWERS
 from web.documents import documents
-from web.jobs import Busy, Gone, Jobs
+from web.jobs import KINDS, Busy, Gone, Jobs
 from web.library import library
 from web.limits import CONNECTIONS, LINGERING, REQUEST, RUNS, SENDING
 
@@ -101,9 +100,9 @@ class Server(http.server.ThreadingHTTPServer):
         self.files, self.jobs, self.places = fixed_files(), None, Places(CONNECTIONS)
         self.names = {f"{name}:{self.server_port}" for name in ("127.0.0.1", "localhost")}
 
-    def answer_by(self, program, why):
-        """The programs that answer, before it serves."""
-        self.jobs = Jobs(program, why)
+    def answer_by(self, *programs):
+        """The programs that answer, jslit-text, jslit and jslit-why, before it serves."""
+        self.jobs = Jobs(programs)
 
     def server_bind(self):
         """As the parent does, but without asking for this machine's name."""
@@ -201,7 +200,7 @@ class Handler(http.server.BaseHTTPRequestHandler):
         if kind:
             self.send(200, kind, body)
         else:
-            self.send_error(405 if self.asks()[0] in ANSWERS else 404)
+            self.send_error(405 if self.asks()[0] in KINDS else 404)
 
     do_HEAD = do_GET
 
@@ -225,10 +224,10 @@ class Handler(http.server.BaseHTTPRequestHandler):
 
     def do_POST(self):
         kind, words = self.asks()
-        if kind not in ANSWERS:
+        if kind not in KINDS:
             self.send_error(405 if self.path in self.server.files else 404)
             return
-        given, length = values_of(words, ANSWERS[kind][1]), self.length()
+        given, length = values_of(words, KINDS[kind]), self.length()
         if length < 0 or given is None:
             self.send_error(-length if length < 0 else 400)
             return

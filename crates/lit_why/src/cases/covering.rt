@@ -1,10 +1,10 @@
 //! Covers: an attempt's box is cut, byte by byte, into cases that what is given in each refutes (decision 142).
 
-ghost use Rattle.std.specs.Prelude.{◌≡◌, ◌<◌, IfOk, IfSome, IsTrue, length};
+ghost use Rattle.std.specs.Prelude.{◌≡◌, ◌<◌, ◌≤◌, IfOk, IfSome, OnOk, length};
 ghost use Rattle.lit_paths.specs.ByteReads.{byte_reads};
 ghost use Rattle.lit_paths.specs.declared.limits.TheConstants.{BYTE_READ_LIMIT as READS};
 ghost use Rattle.lit_solve.specs.Box.{IsBox, box_with, events_on};
-ghost use Rattle.lit_why.specs.Refutation.{AddsCover};
+ghost use Rattle.lit_why.specs.Internal.Cutting.{AddsCases};
 
 use crate::asking::asks;
 use crate::cases::given::byte_read;
@@ -57,8 +57,8 @@ fn cutting_place(plan: &Plan<'_>, problem: &Problem<'_>, domains: &Domains) -> O
     found
 }
 
-/// Adds cases of a box that have all its sources, at most so many with those before. Gives whether these are all: the box is cut so
-/// many times at the most.
+/// Adds cases of a box, until there are `most` with those before. Gives whether they have all sources of the box, which is cut so many
+/// times at the most.
 pub(crate) fn add_cases(
     plan: &Plan<'_>,
     problem: &Problem<'_>,
@@ -69,7 +69,9 @@ pub(crate) fn add_cases(
 ) -> Result<bool, AllocError>
     requires plan { plan.now ≡ problem.now.0 }
     requires is_box { IsBox (box_with problem.now domains.now) }
-    ensures { IfOk result (λ all. IsTrue all → AddsCover (box_with problem.now domains.now) cases.old.items cases.new.items) }
+    requires few { length cases.old.items ≤ most }
+    ensures cases { IfOk result (AddsCases (box_with problem.now domains.now) cases.old.items cases.new.items) }
+    ensures few { OnOk result (length cases.new.items ≤ most) }
 {
     if cases.len() >= most {
         return Ok(false);

@@ -52,7 +52,7 @@ pub(crate) fn given_source(problem: &Problem<'_>, domains: &Domains, place: usiz
 /// Whether each source of a domain is a candidate of its byte read, as in the boxes of cases. The problem's combination is one of its test.
 pub fn is_box(problem: &Problem<'_>, domains: &Domains) -> bool
     requires { problem.now.1 < length (combinations_of problem.now.0) }
-    ensures { IsTrue result → IsBox (box_with problem.now domains.now) }
+    ensures { IsTrue result ↔ IsBox (box_with problem.now domains.now) }
 {
     let combination = problem.combination();
     // Tells the prover that the test is one that a text can spell, and that each byte read has a place in the domains.

@@ -1,11 +1,12 @@
 //! Whether what is given in a box refutes it: the first clause of a valid execution (ECMA-262, 2024, 29.7) that it breaks.
 
-ghost use Rattle.std.specs.Prelude.{◌≡◌, ◌↔◌, ℕ, ◌<◌, IfSome, length};
+ghost use Rattle.std.specs.Prelude.{◌≡◌, ◌↔◌, ℕ, ◌<◌, MatchOption, length};
 ghost use Rattle.lit_paths.specs.ByteReads.{byte_reads};
 ghost use Rattle.lit_rel.specs.Rows.{Holds, rows_len};
 ghost use Rattle.lit_solve.specs.Box.{IsBox, box_with, events_on};
 ghost use Rattle.lit_solve.specs.Given.{GivenIn, HappensBeforeIn};
-ghost use Rattle.lit_why.specs.Refutation.{IsHiddenIn, IsRefutation};
+ghost use Rattle.lit_why.specs.Refutation.{IsHiddenIn, IsRefutation, IsUnrefuted};
+ghost use Rattle.lit_why.specs.Internal.Relations.{IsCoherentAt};
 
 use crate::cases::given::{between_of, byte_read, given_source, relations_of};
 use crate::derivations::first_before_itself;
@@ -27,7 +28,8 @@ fn incoherent_at(
     requires is_box { IsBox (box_with problem.now domains.now) }
     requires len { rows_len before.now ≡ length (events_on problem.now) }
     requires pairs { (e d : ℕ) → Holds before.now e d ↔ HappensBeforeIn (box_with problem.now domains.now) e d }
-    ensures { IfSome result (λ found. GivenIn (box_with problem.now domains.now) found.read found.byte found.source
+    ensures { MatchOption result (IsCoherentAt (box_with problem.now domains.now) place)
+        (λ found. GivenIn (box_with problem.now domains.now) found.read found.byte found.source
         × IsHiddenIn (box_with problem.now domains.now) found.read found.byte found.source found.hidden_by) }
 {
     let events = problem.combination().events();
@@ -48,7 +50,8 @@ fn incoherent_given(problem: &Problem<'_>, domains: &Domains, before: &Rows) -> 
     requires is_box { IsBox (box_with problem.now domains.now) }
     requires len { rows_len before.now ≡ length (events_on problem.now) }
     requires pairs { (e d : ℕ) → Holds before.now e d ↔ HappensBeforeIn (box_with problem.now domains.now) e d }
-    ensures { IfSome result (λ found. GivenIn (box_with problem.now domains.now) found.read found.byte found.source
+    ensures { MatchOption result ((k : ℕ) → IsCoherentAt (box_with problem.now domains.now) k)
+        (λ found. GivenIn (box_with problem.now domains.now) found.read found.byte found.source
         × IsHiddenIn (box_with problem.now domains.now) found.read found.byte found.source found.hidden_by) }
 {
     for place in 0..problem.combination().byte_reads().len() {
@@ -60,10 +63,11 @@ fn incoherent_given(problem: &Problem<'_>, domains: &Domains, before: &Rows) -> 
 }
 
 /// The first clause of a valid execution, in the order of `Refusal`, that what is given in a box breaks, so that no valid execution has
-/// its sources there. The guards of the paths are none of these. `None` may say that the box has to be cut first.
+/// its sources there. The guards of the paths are none of these. `None` exactly where what is given breaks no clause; then the box may
+/// have to be cut.
 pub fn refutation(problem: &Problem<'_>, domains: &Domains) -> Option<Refusal>
     requires { IsBox (box_with problem.now domains.now) }
-    ensures { IfSome result (IsRefutation (box_with problem.now domains.now)) }
+    ensures { MatchOption result (IsUnrefuted (box_with problem.now domains.now)) (IsRefutation (box_with problem.now domains.now)) }
 {
     let relations = relations_of(problem, domains);
     let before = &relations.before.rows;

@@ -4,7 +4,7 @@ ghost use Rattle.std.specs.Prelude.{◌≡◌, ◌⊎◌, ◌↔◌, ℕ, ◌<�
 ghost use Rattle.lit_rel.specs.AgentOrder.{IsAgentOrdered};
 ghost use Rattle.lit_rel.specs.HappensBefore.{IsMadeBefore};
 ghost use Rattle.lit_rel.specs.Rows.{Holds, rows_len};
-ghost use Rattle.lit_why.specs.Chains.{IsOfKindBy};
+ghost use Rattle.lit_why.specs.Chains.{IsOfKind};
 ghost use Rattle.lit_why.specs.Internal.Reaching.{IsStep};
 
 use crate::chains::links::StepKind;
@@ -54,7 +54,7 @@ pub(crate) fn kind_of(
     requires first { first < length events.now }
     requires second { second < length events.now }
     requires step { IsStep events.now (Holds synchronizes.now) first second }
-    ensures { IsOfKindBy events.now (Holds synchronizes.now) result first second }
+    ensures { IsOfKind events.now (Holds synchronizes.now) result first second }
 {
     if is_agent_ordered(events, first, second) {
         StepKind::AgentOrder

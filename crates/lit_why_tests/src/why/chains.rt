@@ -92,7 +92,8 @@ fn chains_are_the_shortest(rt: HostRuntime) -> Result<(), Fail> {
         let plan = plan(rt.alloc(), &test)?;
         assert!(rt; plan.combinations() > 0);
         let part = part_with(&rt, &plan, 0, sources);
-        match chain(&part, from, to) {
+        let (events, synchronizes) = (part.combination().events(), part.synchronizes());
+        match chain(events, &synchronizes, from, to) {
             Some(found) => assert_eq!(rt; Some(found.links.as_slice()), links, "{from} to {to}"),
             None => assert!(rt; links.is_none(), "{from} to {to}"),
         }

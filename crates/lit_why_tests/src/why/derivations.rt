@@ -102,7 +102,7 @@ fn derivations_can_be_checked(rt: HostRuntime) -> Result<(), Fail> {
         let plan = plan(rt.alloc(), &test)?;
         assert!(rt; plan.combinations() > 0);
         let part = part_with(&rt, &plan, 0, sources);
-        let found = match derivation(rt.alloc(), &part)? {
+        let found = match derivation(rt.alloc(), &part.happens_before(), &part.between())? {
             Some(lines) => {
                 assert!(rt; is_derivation(&part, lines.as_slice()), "of {text}");
                 let end = lines.as_slice().last().ok_or("no line")?;

@@ -9,11 +9,12 @@ const { Exploring } = require('../explore.js');
 const { Run, isRead, keyOf } = require('../run.js');
 const { Program, plant } = require('../trees.js');
 
+const WHY = process.env.JSLIT_WHY || path.resolve(__dirname, '..', '..', '..', '..', 'bin', 'jslit-why');
 const PROGRAM = process.env.JSLIT || path.resolve(__dirname, '..', '..', '..', '..', 'jslit');
 
 function ask(text, program = PROGRAM) {
   return new Promise((done, failed) => {
-    const child = execFile(program, [], { encoding: 'latin1', maxBuffer: 2 ** 30 }, (error, printed) => {
+    const child = execFile(program, [], { encoding: 'latin1', maxBuffer: 2 ** 30 }, (_, printed) => {
       const told = { registers: [], outcomes: [], race: false };
       const reader = new ReportReader((part) => {
         if (part.begins) told.registers = part.begins.registers;
@@ -24,6 +25,20 @@ function ask(text, program = PROGRAM) {
       for (const line of printed.split('\n').slice(0, -1)) reader.line(line);
       reader.line(null);
       done(told);
+    });
+    child.stdin.end(text);
+  });
+}
+
+// What jslit-why says of a text.
+function askWhy(text, words) {
+  return new Promise((done, failed) => {
+    const child = execFile(WHY, ['--json', ...words], { encoding: 'latin1', maxBuffer: 2 ** 30 }, (error, printed) => {
+      try {
+        done({ why: JSON.parse(printed) });
+      } catch {
+        failed(new Error(`${error ?? printed} of\n${text}`));
+      }
     });
     child.stdin.end(text);
   });
@@ -61,7 +76,7 @@ function kept(run) {
 
 // The text of an outcome, by the leaves of all agents.
 const tellOf = (names) => (ways) =>
-  answerOf(names, [ways.map(({ ended, value, logs, failed, isPerhaps }) => ({ end: ended, value, logs, failed, isPerhaps }))], null)
+  answerOf(names, [{ leaves: ways.map(({ ended, value, logs, failed }) => ({ end: ended, value, logs, failed })), values: [] }], null)
     .outcomes[0].text;
 
 // Executions of the code in which each access takes effect at once, in an order that `choose` gives. `null` where it came to no end.
@@ -128,4 +143,4 @@ function randomOf(seed) {
   };
 }
 
-module.exports = { agentsOf, answered, ask, everyInterleaving, interleaving, keyOf, randomOf, tellOf, textsOf };
+module.exports = { agentsOf, answered, ask, askWhy, everyInterleaving, interleaving, keyOf, programOf, randomOf, tellOf, textsOf };

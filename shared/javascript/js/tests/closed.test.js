@@ -44,6 +44,7 @@ async function tried(source) {
   const isThin = answer.thin.notes.length > 0;
   for (const text of told) assert.ok(wanted.has(text), `${text} is no outcome of\n${source}`);
   if (!isThin) for (const text of wanted) assert.ok(told.has(text), `${text} is missing of\n${source}`);
+  if (answer.isSequential) assert.ok(answer.ended.every(({ isInterleaved }) => isInterleaved), source);
   const raced = hasRace(agents.runs, domain, agents.setting.initial, 4);
   if (answer.race) assert.ok(raced, `no data race is in\n${source}`);
   return { texts: answer.texts.made.length, isThin, raced, told: answer.race };

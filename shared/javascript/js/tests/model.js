@@ -149,4 +149,55 @@ function hasRace(runs, domain, initial, most = 6) {
   return false;
 }
 
-module.exports = { hasRace, keyOf, outcomesOf };
+// The same of all interleavings of the agents: each is one of the executions that the model allows. Sources are the last writes.
+function hasInterleavedRace(runs, initial) {
+  let isFound = false;
+  const go = (agents, line) => {
+    const open = agents.map((_, agent) => agent).filter((agent) => agents[agent].done < agents[agent].last.events.length);
+    if (open.length === 0) isFound ||= isRacingInLine(agents.map(({ last }) => last), line, initial);
+    for (const agent of open) {
+      const { values, done, last } = agents[agent];
+      const event = last.events[done];
+      const more = isRead(event.op) ? [...values, valueAt(agents, line, event, initial)] : values;
+      go(agents.map((each, place) => (place === agent ? { values: more, done: done + 1, last: runs[agent](more) } : each)),
+        [...line, { agent, place: done }]);
+      if (isFound) return;
+    }
+  };
+  go(runs.map((run) => ({ values: [], done: 0, last: run([]) })), []);
+  return isFound;
+}
+
+// Where a byte was written last in the line: {agent, place}, or null.
+function lastIn(agents, line, block, byte) {
+  return line.findLast(({ agent, place }) => {
+    const event = agents[agent].last.events[place];
+    return event.block === block && at(event, byte) && writtenBy(event) !== null;
+  }) ?? null;
+}
+
+function valueAt(agents, line, { block, first, size }, initial) {
+  let value = 0;
+  for (let byte = first + size - 1; byte >= first; byte -= 1) {
+    const found = lastIn(agents, line, block, byte);
+    const event = found && agents[found.agent].last.events[found.place];
+    value = value * 256 + (event ? byteOf(writtenBy(event), byte - event.first) : initial(block, byte));
+  }
+  return value;
+}
+
+function isRacingInLine(ways, line, initial) {
+  const execution = new Execution(ways, initial);
+  const numberOf = (found, block, byte) => execution.events.findIndex((event) =>
+    (found ? event.agent === found.agent && event.place === found.place : event.op === 'init' && event.block === block && event.first === byte));
+  const agents = ways.map((last) => ({ last }));
+  const sources = execution.byteReads.map(({ number, byte }) => {
+    const { agent, place, block } = execution.events[number];
+    const before = line.slice(0, line.findIndex((each) => each.agent === agent && each.place === place));
+    return numberOf(lastIn(agents, before, block, byte), block, byte);
+  });
+  if (!execution.isValid(sources)) throw new Error('an interleaving is no valid execution');
+  return execution.isRacing(sources);
+}
+
+module.exports = { Execution, hasInterleavedRace, hasRace, keyOf, outcomesOf };

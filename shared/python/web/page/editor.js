@@ -71,15 +71,36 @@ function reveal(line) {
   if (top < area.scrollTop || top + 2 * height > area.scrollTop + area.clientHeight) area.scrollTop = top - area.clientHeight / 2;
 }
 
-// Writes these in place of their lines; the lines after them keep their numbers, but where an end is put before a line.
-function takeLines(taken) {
+// Puts a text in place of all, so that the browser's own undoing takes it back at once.
+function putText(text) {
+  const { scrollTop } = area;
   area.focus();
-  for (const { line, lines, write } of taken.sort((a, b) => b.line - a.line)) {
-    const at = beginning(line);
-    const end = beginning(line + lines - 1) + lineOf(line + lines - 1).length;
-    area.setRangeText(write + '\n'.repeat(lines - 1), at, end, 'end');
-  }
+  area.select();
+  if (!document.execCommand('insertText', false, text)) area.value = text;
+  area.scrollTop = scrollTop;
   area.dispatchEvent(new Event('input'));
+}
+
+// Offers to put back what stood there before lines were taken, as long as nothing else is written.
+function offerBack(before) {
+  const after = area.value;
+  const back = () => {
+    if (area.value === after) putText(before);
+    byId('put-back').hidden = true;
+  };
+  byId('put-back').hidden = false;
+  byId('put-back').onclick = back;
+}
+
+// Writes these in place of their lines; the lines after them keep their numbers, but where there are more lines in place of one.
+function takeLines(taken) {
+  const before = area.value;
+  const all = before.split('\n');
+  for (const { line, from, lines, write } of taken.sort((a, b) => b.line - a.line)) {
+    all.splice((from ?? line) - 1, lines, ...write.split('\n'), ...Array(lines - 1).fill(''));
+  }
+  putText(all.join('\n'));
+  offerBack(before);
 }
 
 // What is said of one fault, with what can be done about it.

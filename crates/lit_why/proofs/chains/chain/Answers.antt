@@ -1,14 +1,13 @@
 use Rattle.std.proofs.Common.{arith}
 use Rattle.lit_rel.specs.Rows.{Holds, rows_len}
-use Rattle.lit_why.proofs.StepLemmas.{both_known, is_shortest, not_before}
+use Rattle.lit_why.proofs.StepLemmas.{both_known, is_shortest, not_led}
 use Rattle.lit_why.proofs.chains.chain.Goals as goal
 use Rattle.lit_why.proofs.chains.chain.Goals.{then-first-len-via-then-first-len, then-first-len-via-else-first-len+then-last-len}
 
 pub returns-then-first-len : goal.returns-then-first-len
-returns-then-first-len c before =
-    let steps = rw (c.events-events.ensures.value, c.combination.ensures) at c.steps_of-steps.ensures.pairs in
-    let known = both_known c.args.part.now (Holds c.synchronizes-synchronizes.result) (Holds c.steps_of-steps.result) c.synchronizes-synchronizes.ensures.pairs steps
-    (rows_len c.steps_of-steps.result) (λ e d h. (h.first_known, h.second_known)) c.args.from c.args.to before in
+returns-then-first-len c middles chain =
+    let known = both_known c.args.events.now (Holds c.args.synchronizes.now) (Holds c.steps_of-steps.result) c.steps_of-steps.ensures.pairs
+    (rows_len c.steps_of-steps.result) (λ e d h. (h.first_known, h.second_known)) c.args.from middles c.args.to chain in
     elim c.then-first-len.branch [
       | then-first-len-via-then-first-len w ↦ omega (arith, known.0)
       | then-first-len-via-else-first-len+then-last-len w ↦ omega (arith, known.1)
@@ -16,14 +15,13 @@ returns-then-first-len c before =
 
 pub returns-in-Some : goal.returns-in-Some
 returns-in-Some c =
-    let steps = rw (c.events-events.ensures.value, c.combination.ensures) at c.steps_of-steps.ensures.pairs in
-    let linked = rw (c.events-events.ensures.value, c.combination.ensures, c.from-first.ensures, c.from-last.ensures) at c.links_along.ensures.linked in
+    let linked = rw (c.from-first.ensures, c.from-last.ensures) at c.links_along.ensures.linked in
     let below = rw (c.from-first.ensures, c.from-last.ensures) at c.in-Some.ensures in
-    is_shortest c.args.part.now (Holds c.synchronizes-synchronizes.result) (Holds c.steps_of-steps.result) c.synchronizes-synchronizes.ensures.pairs steps
-    c.args.from c.args.to c.in-Some.levels.items c.links_along.result.items below.0 linked (rw c.as_slice.ensures.value at c.links_along.ensures.count)
+    is_shortest c.args.events.now (Holds c.args.synchronizes.now) (Holds c.steps_of-steps.result) c.steps_of-steps.ensures.pairs
+    c.args.from c.args.to c.in-Some.levels.items c.links_along.result.items below.0 linked
+    (rw c.as_slice.ensures.value at c.links_along.ensures.count)
 
 pub returns-in-None : goal.returns-in-None
 returns-in-None c =
-    let steps = rw (c.events-events.ensures.value, c.combination.ensures) at c.steps_of-steps.ensures.pairs in
-    not_before c.args.part.now (Holds c.synchronizes-synchronizes.result) (Holds c.steps_of-steps.result) c.synchronizes-synchronizes.ensures.pairs steps
+    not_led c.args.events.now (Holds c.args.synchronizes.now) (Holds c.steps_of-steps.result) c.steps_of-steps.ensures.pairs
     c.args.from c.args.to (rw (c.from-first.ensures, c.from-last.ensures) at c.in-None.ensures)

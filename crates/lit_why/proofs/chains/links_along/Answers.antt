@@ -1,7 +1,7 @@
 use Rattle.std.proofs.Common.{◌≡◌, ℕ, ◌+◌, ◌-◌, ◌<◌, length, arith}
 use Rattle.lit_rel.specs.Rows.{Holds}
 use Rattle.lit_why.specs.Internal.Reaching.{IsReachedBy}
-use Rattle.lit_why.proofs.LinkLemmas.{AreLinkedBy-more}
+use Rattle.lit_why.proofs.LinkLemmas.{AreLinked-more}
 use Rattle.lit_why.proofs.ReachLemmas.{reached_next}
 use Rattle.lit_why.proofs.chains.links_along.Goals as goal
 
@@ -27,11 +27,11 @@ loop-left-preserved c =
     record {
       count = omega (arith, c.push.ensures.len);
       reached = (c.requires.levels (c.loop-left.left - 1) inside c.next_of-next.result).0 c.next_of-next.ensures.within;
-      linked = rw c.push.ensures.items (AreLinkedBy-more c.args.events.now (Holds c.args.synchronizes.now) c.args.from c.loop-left.links.items c.loop-left.event c.link_between.result
+      linked = rw c.push.ensures.items (AreLinked-more c.args.events.now (Holds c.args.synchronizes.now) c.args.from c.loop-left.links.items c.loop-left.event c.link_between.result
           c.next_of-next.result c.link_between.ensures.to c.loop-left.invariant.linked c.link_between.ensures.kind);
     }
 
 pub returns-clause-linked : goal.returns-clause-linked
 returns-clause-linked c =
-    rw c.push-2.ensures.items (AreLinkedBy-more c.args.events.now (Holds c.args.synchronizes.now) c.args.from c.loop-left.links.items c.loop-left.event c.link_between-2.result
+    rw c.push-2.ensures.items (AreLinked-more c.args.events.now (Holds c.args.synchronizes.now) c.args.from c.loop-left.links.items c.loop-left.event c.link_between-2.result
     c.args.to c.link_between-2.ensures.to c.loop-left.invariant.linked c.link_between-2.ensures.kind)

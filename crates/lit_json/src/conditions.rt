@@ -1,0 +1,55 @@
+//! A condition as a tree.
+
+use lit_syntax::{Cond, Test};
+use serde_json::{Value, json};
+use std::alloc::{AllocError, Global};
+
+/// The name of an agent of a condition, by its number.
+fn agent_name(test: &Test, agent: u8) -> &str {
+    if usize::from(agent) < test.agents() {
+        test.agent_name(usize::from(agent))
+    } else {
+        ""
+    }
+}
+
+/// A condition: `any`, `all` or `not` of others, or the comparison of a register with a number.
+#[cycle(conditions)]
+pub(crate) fn condition_value(
+    alloc: Global,
+    test: &Test,
+    cond: &Cond,
+) -> Result<Value, AllocError> {
+    match cond {
+        Cond::Any(members) => {
+            let members = members_value(alloc, test, members)?;
+            json!(in alloc; {"any": members})
+        }
+        Cond::All(members) => {
+            let members = members_value(alloc, test, members)?;
+            json!(in alloc; {"all": members})
+        }
+        Cond::Not(inner) => {
+            let inner = condition_value(alloc, test, inner)?;
+            json!(in alloc; {"not": inner})
+        }
+        Cond::Is {
+            agent,
+            reg,
+            equal,
+            value,
+        } => json!(in alloc; {
+            "agent": agent_name(test, *agent), "register": *reg, "equal": *equal, "number": *value
+        }),
+    }
+}
+
+/// Conditions, in their order.
+#[cycle(conditions)]
+fn members_value(alloc: Global, test: &Test, members: &[Cond]) -> Result<Value, AllocError> {
+    let mut list = Vec::new(alloc);
+    for member in members {
+        list.push(condition_value(alloc, test, member)?)?;
+    }
+    Ok(Value::Array(list))
+}

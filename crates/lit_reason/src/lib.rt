@@ -1,0 +1,32 @@
+//! The answer to why, printed: why no valid execution of a litmus test has an outcome of a class, an example where one has, what
+//! refuses a choice, and which two events are in a data race; as text, or as a line of JSON.
+//!
+//! What it says of an execution it has from the calls of `lit_why`; its text is tested, not proved. Its sums saturate where nothing
+//! proves that they fit.
+#![tactic(auto)]
+
+mod attempts;
+mod choices;
+mod classes;
+mod clauses;
+mod cores;
+mod cycles;
+mod execution;
+mod explanation;
+mod fault;
+mod found;
+mod guards;
+mod json;
+mod question;
+mod races;
+mod reasons;
+mod scene;
+mod selection;
+mod statements;
+mod wording;
+
+pub use explanation::{Answer, explain};
+pub use fault::ReasonFault;
+pub use lit_search::Class;
+pub use question::{Asked, MOST, MOST_LIMIT, Question};
+pub use selection::are_words;

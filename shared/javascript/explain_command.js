@@ -1,0 +1,222 @@
+'use strict';
+// The command jslit-explain.
+
+const fs = require('fs');
+const path = require('path');
+const { readText, run } = require('./command.js');
+const { messageOf, plain } = require('./lines.js');
+const { notesOfReport, reported } = require('./noting.js');
+const { TOP, builtProgram, namedProgram, runOf, tellText } = require('./programs.js');
+const { MOST, more } = require('./text/faults.js');
+const { linesOf } = require('./text/forms.js');
+const { advice } = require('./text/refusals.js');
+const { adviceOnWords } = require('./text/command_words.js');
+const { pathOf } = require('./words.js');
+
+const USAGE = `jslit-explain [--program PROGRAM] [WORDS] FILE
+
+Runs the program, by default jslit, with these words, and where it refuses says on standard error at which token of the line,
+what could stand there, and what to write instead; and the same of the other faults, as the program refuses the text once the
+lines before are written so. Kinds and lines are the program's. It reads the text in FILE once, up to one
+byte more than a text may have, and gives the program what it has read. Without a FILE it reads the standard input anew, where
+that is a file: a pipe can't be read twice, and then nothing more is said.
+
+Options:
+  --program PROGRAM  the program
+  --input-failed     runs nothing, and says why FILE can't be read
+  --why              the program is jslit-why, with its words; nothing is said of what it doesn't refuse
+  --words-refused    runs nothing, and says which command may be meant
+  --notes            says of a text that isn't refused where it may not mean what one thinks: such as a register that is
+                     0 since nothing reads into it, or a comparison with a number that nobody can have read
+  --help             prints this
+  --version          prints the version
+
+The status is the program's; 5 where it neither refuses nor begins a report within ten seconds, 70 where there is no program, or no
+node.
+
+Example:
+  jslit-explain mine.lit
+`;
+const VALUED = ['--workers', '--cut', '--schedule', '--most', '--choice', '--from', '--condition'];
+const LIMIT = 10000;         // milliseconds until it refuses or begins a report
+const LIMIT_OF_NOTES = 2000; // for a report whose examples notes are about
+const WIDTH = 100;
+
+const say = (line) => {
+  try {
+    fs.writeSync(2, `${line}\n`);
+  } catch {
+    // Nobody takes it.
+  }
+};
+const utf8 = (text) => Buffer.from(text, 'latin1').toString('utf8');
+
+// The places of the files' names among the program's words, and the schedule's text, or null, as the program reads them.
+function parsed(words) {
+  const places = [];
+  let schedule = null;
+  for (let place = 0; place < words.length; place += 1) {
+    const word = words[place];
+    if (word === '--') return { places: [...places, ...words.keys()].filter((at) => at > place || places.includes(at)), schedule };
+    const [flag, ...rest] = word.split('=');
+    if (VALUED.includes(flag)) {
+      const value = word.includes('=') ? rest.join('=') : words[place += 1] ?? '';
+      if (flag === '--schedule') schedule = value;
+    } else if (word === '-' || !word.startsWith('-')) places.push(place);
+  }
+  return { places, schedule };
+}
+
+// The name by which a standard input that is a file can be read anew.
+function standardInput() {
+  try {
+    return fs.fstatSync(0).isFile() ? '/dev/stdin' : null;
+  } catch {
+    return null;
+  }
+}
+
+// Whether what a file has is gone once it is read: it may have been read before this was called.
+function isReadOnce(name) {
+  try {
+    const kind = fs.statSync(pathOf(name));
+    return kind.isFIFO() || kind.isSocket();
+  } catch {
+    return false;
+  }
+}
+
+const isPrintable = (sign) => sign === '\t' || /^[\p{L}\p{M}\p{N}\p{P}\p{S} ]$/u.test(sign);
+
+// The line, cut where it is long, and a caret.
+function show(line, column) {
+  const start = line.length > WIDTH ? Math.max(0, column - WIDTH / 2) : 0;
+  const signs = (text) => [...utf8(text)];
+  say(`    ${signs(line.slice(start, start + WIDTH)).map((sign) => (isPrintable(sign) ? sign : ' ')).join('').trimEnd()}`);
+  say(`    ${signs(line.slice(start, column)).map((sign) => (sign === '\t' ? '\t' : ' ')).join('')}^`);
+}
+
+function explain(said, name, text, given) {
+  say(`${plain(name)}${given.line ? `:${given.line}` : ''}: ${said}`);
+  if (given.column !== null) show(linesOf(text)[given.line - 1], given.column);
+  for (const sentence of given.said) say(`  ${sentence}`);
+  if (given.write === '') say('  write: nothing in its place');
+  if (given.write && given.from !== given.line) say(`  in place of lines ${given.from} and ${given.line}`);
+  for (const [place, line] of (given.write ? given.write.split('\n') : []).entries()) say(`  ${place === 0 ? 'write:' : '      '} ${line}`);
+}
+
+// Explains the line that the program printed for the text, and then its other faults. `ask` gives what jslit-text says of a text.
+async function refusal(said, name, data, schedule, ask) {
+  const text = data.toString('latin1');
+  const told = await ask(data);
+  explain(said, name, text, advice(said, text, told, { schedule }));
+  let count = 1;
+  const next = more(said, text, told);
+  for (let step = next.next(); !step.done;) {
+    if (typeof step.value === 'string') {
+      const other = await ask(Buffer.from(step.value, 'latin1'));
+      step = next.next(other);
+    } else {
+      count += 1;
+      explain(`then ${step.value.printed}`, name, text, step.value.advice);
+      step = next.next();
+    }
+  }
+  if (count === MOST) say(`${plain(name)}: these are the first ${count} faults; there may be more`);
+}
+
+// Why a file can't be read.
+function failed(name) {
+  if (name === '-') {
+    say('-: standard input is read where no FILE is named: leave the `-` out');
+    return;
+  }
+  try {
+    fs.readSync(fs.openSync(pathOf(name), 'r'), Buffer.alloc(1));
+  } catch (error) {
+    const stored = path.join(TOP, 'litmus', path.basename(name));
+    const near = [`${name}.lit`, stored, `${stored}.lit`].find((other) => fs.statSync(other, { throwIfNoEntry: false })?.isFile());
+    const meant = error.code === 'EISDIR' ? '; jslit-check runs all tests of a folder' : near ? `; did you mean ${plain(path.relative('.', near))}?` : '';
+    say(`${plain(name)}: ${messageOf(error)}${meant}`);
+  }
+}
+
+// The text of a file, or null where it can't be read, which is said.
+function textOf(name) {
+  try {
+    return readText(name);
+  } catch (error) {
+    if (error.status !== 4) throw error;
+    failed(name);
+    return null;
+  }
+}
+
+// The status of the program on the text of this name, once it is said what there is to say: of a text that isn't refused only where
+// `isTold`.
+async function explained(program, words, name, schedule, isTold) {
+  const data = textOf(name);
+  if (data === null) return 4;
+  let printed = '';
+  // A report is not waited for: where one begins, nothing is refused.
+  const take = (piece) => {
+    printed += piece;
+    return printed.startsWith('refused ') || 'refused '.startsWith(printed);
+  };
+  const ended = await runOf(program, words, data, { limit: LIMIT, take });
+  if (!ended.whole) ended.status = 0;
+  if (ended.status === null) {
+    say(`${plain(name)}: not refused within ${LIMIT / 1000} seconds`);
+    return 5;
+  }
+  if (ended.status === 1 && printed.startsWith('refused ')) {
+    const text = await builtProgram('jslit-text');
+    await refusal(printed.trim(), name, data, schedule, (other) => tellText(text, name, other));
+  } else if (ended.status === 0) {
+    if (isTold) say(`${plain(name)}: not refused`);
+  } else say(utf8(ended.said).trimEnd());
+  return ended.status ?? 70;
+}
+
+// Says the notes on a text that the program has taken. What can't be read twice has none.
+async function note(program, words, name, schedule) {
+  if (words.some((word) => ['-h', '--help', '-V', '--version'].includes(word)) || name === null || isReadOnce(name)) return 0;
+  const data = readText(name);
+  const { test } = await tellText(await builtProgram('jslit-text'), name, data);
+  const quick = words.filter((word) => word === '--quick');
+  const outcomes = schedule === null ? await reported(program, quick, data, LIMIT_OF_NOTES) : [];
+  for (const each of await notesOfReport(data, test, outcomes)) say(`${plain(name)}:${each.line}: note: ${each.said}`);
+  return 0;
+}
+
+async function main(given) {
+  const isNamed = given[0] === '--program' && given.length > 1;
+  let words = isNamed ? given.slice(2) : given;
+  const program = async () => (isNamed ? namedProgram(given[1]) : builtProgram('jslit'));
+  if (words.length === 1 && (words[0] === '--help' || words[0] === '-h')) return process.stdout.write(USAGE) && 0;
+  const [mode] = words;
+  if (['--input-failed', '--notes', '--why', '--words-refused'].includes(mode)) words = words.slice(1);
+  if (mode === '--words-refused') {
+    for (const line of adviceOnWords(words)) say(`  ${line}`);
+    return 2;
+  }
+  const { places, schedule } = parsed(words);
+  const name = places.length ? words[places[0]] : standardInput();
+  if (mode === '--notes') return places.length < 2 ? note(await program(), words, name, schedule) : 2;
+  if (mode === '--input-failed') {
+    if (places.length) failed(name);
+    return 4;
+  }
+  if (name === null || isReadOnce(name)) {
+    say("jslit-explain: only a text in a file is explained; a pipe can't be read twice");
+    return 2;
+  }
+  if (places.length > 1) {
+    const ended = await runOf(await program(), words, '');
+    say(utf8(ended.said).trimEnd());
+    return ended.status ?? 70;
+  }
+  return explained(await program(), words.filter((_, place) => !places.includes(place)), name, schedule, mode !== '--why');
+}
+
+run('jslit-explain', USAGE, main);

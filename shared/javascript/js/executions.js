@@ -1,0 +1,150 @@
+'use strict';
+// What jslit-why says of one way of each agent, in the user's terms: an execution step by step, or what refuses it.
+
+const { traced } = require('./interleavings.js');
+const { dataOf, placeOf } = require('./steps.js');
+const { Straight, wayOf } = require('./straight.js');
+
+class Executions {
+  // `why` gives what jslit-why says of a text with these words; `places` tells where lines are.
+  constructor(name, program, trees, places, why) {
+    Object.assign(this, { name, program, trees, places, why, names: trees.list.map((tree) => tree.name) });
+  }
+
+  data(steps) {
+    const list = steps.map(({ step }) => step);
+    return steps.map(({ step, sources }) => {
+      const isExit = step.event.op === 'receive' && this.program.payloads[step.got]?.type === 'exit';
+      const made = this.placed(dataOf({ step: { ...step, isExit }, sources }, this.names, (at) => this.program.excerpt(at)));
+      made.from?.forEach((from, place) => {
+        const source = list.indexOf(sources[place].step);
+        if (source >= 0) from.step = source;
+      });
+      return made;
+    });
+  }
+
+  // The same with the user's own places.
+  placed(step) {
+    const own = ({ file, line, ...rest }) =>
+      (file === undefined ? rest : { ...rest, ...(file === null ? { file, line } : this.places.at({ file, line })) });
+    return { ...own(step), ...(step.from ? { from: step.from.map(own) } : {}) };
+  }
+
+  straight(ways, kept) {
+    return new Straight(this.name, this.trees, ways, kept);
+  }
+
+  // What there is on ways that these values lead, one list for each agent: {steps, text, words}, {refused}, or {impossible} where a value
+  // is one that none of these ways writes.
+  async ofWays(values) {
+    const straight = this.straight(values.map((each, agent) => wayOf(this.trees.list[agent], agent, each).steps));
+    const told = await this.why(straight.text, []);
+    if (told.execution) {
+      const races = told.execution.races.map((names) => names.map((each) => straight.stepOf(each)));
+      return { steps: this.data(straight.ordered(told.execution)), text: straight.text, choice: told.choice,
+        races: races.filter((steps) => steps.every(Boolean)).map((steps) => this.data(steps.map((step) => ({ step, sources: [] })))) };
+    }
+    if (told.clauses?.length) return { refused: this.refused(straight, told.clauses[0]) };
+    return { impossible: true };
+  }
+
+  // The interleaving that these moves make, in its own order, where jslit-why has it as a valid execution; and the last two steps as a
+  // data race, if these are to be one.
+  async ofMoves(moves, areRacing = false) {
+    const { ways, order } = traced(this.trees, moves);
+    const racing = areRacing ? order.slice(-2) : null;
+    const straight = this.straight(ways, racing ? racing.map(({ event }) => event) : []);
+    const told = await this.why(straight.text, ['--from', straight.from(order)]);
+    if (!told.execution?.order || !this.reads(straight, told.execution)) return null;
+    const pair = racing?.map((step) => straight.nameOf(step));
+    if (pair && !told.execution.races.some((race) => pair.every((name) => race.includes(name)))) return null;
+    const { from } = told.execution;
+    const names = order.filter((step) => straight.has(step)).map((step) => straight.nameOf(step));
+    const steps = this.data(straight.ordered({ from, order: names }));
+    return { steps, text: straight.text, choice: told.choice,
+      ...(racing ? { pair: this.data(racing.map((step) => ({ step, sources: [] }))) } : {}) };
+  }
+
+  // Whether the reads have the values that the code was run with.
+  reads(straight, { events }) {
+    return events.every(({ name, reads }) => {
+      const step = straight.stepOf(name);
+      return !step || reads === undefined || reads === straight.layout.number(step.event, step.got);
+    });
+  }
+
+  // The first attempt that a clause refuses: {clause, section, steps, lines}.
+  refused(straight, { clause, section, cases, whole, execution }) {
+    const given = new Set(execution.from.map(({ read }) => read));
+    const order = execution.events.map(({ name }) => name);
+    const steps = straight.ordered({ from: execution.from, order })
+      .filter(({ step }) => step.written !== null || given.has(straight.nameOf(step)));
+    const told = new Reason((name) => this.called(straight, name)).of(execution.refusal);
+    return { clause, section, cases, whole, steps: this.data(steps), lines: told };
+  }
+
+  // An event as it is called in a reason: {agent, file, line, which (of several accesses on one line)}, or {start}.
+  called(straight, name) {
+    const step = straight.stepOf(name);
+    if (step === null) return name.startsWith('init') ? { start: true } : { agent: name.split('.')[0], file: null, line: null };
+    const { file, line } = placeOf(step.event.at);
+    const same = straight.events[step.agent].filter(({ event: { at } }) => at?.file === file && at?.line === line);
+    return this.placed({ agent: this.names[step.agent], file, line, ...(same.length > 1 ? { which: same.indexOf(step) + 1 } : {}) });
+  }
+}
+
+// A refusal as lines of data: {before, after, because}, {read, source, then}, {torn}, or {before, itself}.
+class Reason {
+  constructor(named) {
+    this.named = named;
+  }
+
+  of(refusal) {
+    switch (refusal.clause) {
+      case 'happens-before': return [...this.chain(refusal.chains[0]), this.itself(refusal.event)];
+      case 'coherent-reads': return [this.incoherent(refusal), ...refusal.chains.flatMap((chain) => this.chain(chain))];
+      case 'tear-free-reads': return [{ read: this.named(refusal.read), torn: refusal.sources.map(this.named) }];
+      case 'memory-order': return refusal.derivation === null ? [{ none: true }] : this.cycle(refusal.derivation);
+      default: return [{ none: true }];
+    }
+  }
+
+  chain(chain) {
+    return chain.map(({ before, after, step }) => ({ before: this.named(before), after: this.named(after), because: step }));
+  }
+
+  itself(event) {
+    return { before: this.named(event), itself: true };
+  }
+
+  incoherent({ read, source, hidden_by: other }) {
+    return { read: this.named(read), source: this.named(source), hidden: other === null ? null : this.named(other) };
+  }
+
+  // The lines of which the line at a place is composed, in the order of their events.
+  parts(lines, place) {
+    const { reason, lines: cited } = lines[place];
+    return reason === 'joined' ? cited.flatMap((each) => this.parts(lines, each)) : [place];
+  }
+
+  step(line) {
+    if (line.reason === 'happens-before') return this.chain(line.chain);
+    const [middle, source, read] = line.reason === 'after-read'
+      ? [line.after, line.source, line.before] : [line.before, line.after, line.read];
+    return [{ before: this.named(line.before), after: this.named(line.after), because: 'between',
+      middle: this.named(middle), source: this.named(source), read: this.named(read) }];
+  }
+
+  // First the steps to the lines that forced lines cite, then the steps of the cycle, from its first event on.
+  cycle(lines) {
+    const steps = (places) => places.flatMap((place) => this.step(lines[place]));
+    const premises = lines.filter(({ reason }) => reason === 'before-source' || reason === 'after-read')
+      .map((line) => line.lines[0]).filter((place) => lines[place].reason !== 'happens-before');
+    const places = this.parts(lines, lines.length - 1);
+    return [...[...new Set(premises)].flatMap((place) => steps(this.parts(lines, place))), ...steps(places),
+      this.itself(lines[places[0]].before)];
+  }
+}
+
+module.exports = { Executions };

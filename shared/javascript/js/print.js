@@ -1,0 +1,144 @@
+'use strict';
+// The answer as lines.
+
+const PERHAPS = 'the queue of Atomics.wait is followed in interleavings alone: what is marked (perhaps) may be impossible';
+const HOW = { waits: 'wait for ever', spins: 'go round for ever', listens: 'wait for a message for ever' };
+
+const count = (number, one, more) => (number === 1 ? `one ${one}` : `${number} ${more}`);
+
+// What prints steps and reasons: `place` gives where a line is, `code` what of a step's code is shown; lines of the file `main` go by their
+// numbers.
+class Printer {
+  constructor({ main, place, code }) {
+    Object.assign(this, { main, place, code });
+  }
+
+  at({ file, line }) {
+    return file === null ? '' : this.place(file, line);
+  }
+
+  near({ file, line }) {
+    return file === null ? '' : file === this.main ? `line ${line}` : this.place(file, line);
+  }
+
+  source(from) {
+    return from.start ? 'the start' : [from.agent, this.near(from)].filter(Boolean).join(', ');
+  }
+
+  // Where what is read comes from.
+  from(step, word = 'from') {
+    const words = (step.from ?? []).map((each) => {
+      const [first, last] = each.bytes ?? [];
+      const bytes = each.bytes === null ? '' : first === last ? `byte ${first} ` : `bytes ${first} to ${last} `;
+      return `${bytes}${word} ${this.source(each)}`;
+    });
+    return words.length > 1 ? `: ${words.join(', ')}` : words.map((each) => ` ${each}`).join('');
+  }
+
+  does(step) {
+    const read = `reads ${step.reads}${this.from(step)}${step.from?.length > 1 ? ';' : ','}`;
+    switch (step.does) {
+      case 'writes': return `writes ${step.writes}`;
+      case 'reads': return read.slice(0, -1);
+      case 'reads and writes': return `${read} writes ${step.writes}`;
+      case 'reads and leaves': return `${read} writes nothing`;
+      case 'is woken': return `is woken${this.from(step, 'by')}`;
+      case 'takes the message': case 'sees the end': return `${step.does}${this.from(step, 'of')}`;
+      default: return step.does;
+    }
+  }
+
+  steps(steps) {
+    const rows = steps.map((step) => [step.agent, this.at(step), this.code(step), this.does(step)]);
+    const widths = [0, 1, 2].map((column) => Math.max(0, ...rows.map((row) => row[column].length)));
+    return rows.map((row) => `  ${row.map((word, column) => (column < 3 ? word.padEnd(widths[column]) : word)).join('  ')}`);
+  }
+
+  // An event in a reason.
+  event({ start, agent, file, line, which }) {
+    if (start) return 'the start';
+    return [agent, this.near({ file, line }), which ? `(access ${which})` : ''].filter(Boolean).join(' ');
+  }
+
+  because({ because, middle, source, read }) {
+    if (because === 'agent-order') return 'its own order';
+    if (because === 'synchronizes-with') return 'it reads what that writes (synchronizes-with)';
+    if (because === 'made-before') return 'the start is first';
+    return `${this.event(middle)} may not stand between ${this.event(source)} and its reader ${this.event(read)}`;
+  }
+
+  reason(line) {
+    if (line.itself) return `so ${this.event(line.before)} before itself`;
+    if (line.torn) {
+      const sources = line.torn.map((each) => this.event(each)).join(' and of ');
+      return `${this.event(line.read)} reads bytes of ${sources}, and none of the three may be torn`;
+    }
+    if (line.none) return 'each order of these breaks a rule; no two of them alone show it';
+    if (line.source && !line.because) return line.hidden === null
+      ? `${this.event(line.read)} can't read from ${this.event(line.source)}, which comes after it`
+      : `${this.event(line.read)} can't read from ${this.event(line.source)}: ${this.event(line.hidden)} writes over that before`;
+    return `${this.event(line.before)} before ${this.event(line.after)}: ${this.because(line)}`;
+  }
+}
+
+function outcomeLine({ text, holds, isPerhaps }) {
+  return `outcome  ${text || '(nothing is returned or printed)'}${holds ? '' : '   FAILS'}${isPerhaps ? '   (perhaps)' : ''}`;
+}
+
+// Of several the first has its steps, or with `isAll` each.
+function raceLines(races, isAll, printer) {
+  if (races.is !== 'yes') return [`data race ${races.is}`];
+  return races.pairs.flatMap(({ pair, steps }, place) => [
+    `data race yes: ${pair.map((each) => `${each.agent} ${printer.at(each)}`).join(' and ')}`,
+    ...(isAll || place === 0 ? printer.steps(steps) : [])]);
+}
+
+function hangLines(hangs, isAll, printer) {
+  return hangs.flatMap(({ ends, steps }, place) => [
+    `${ends.map(({ agent, how, ...at }) => `${agent} may ${HOW[how]} at ${printer.at(at)}`).join(', and ')}${steps ? '' : ' (perhaps)'}`,
+    ...(steps && (isAll || place === 0) ? printer.steps(steps) : [])]);
+}
+
+// Why there is no such outcome.
+function reasonLines(head, verb, { ways, isWhole, clauses, impossible, unwoken, first }, printer) {
+  if (ways === 0) return [`${head}: no way of the agents would ${verb}, whatever they read`];
+  const counts = [...clauses.map(({ clause, count: times }) => `${clause} forbids ${times}`),
+    ...(impossible ? [`${impossible} read what is not written`] : []), ...(unwoken ? [`${unwoken} are woken by nobody`] : [])];
+  const lines = [`${head}: ${count(ways, 'way', 'ways')} of the agents ${isWhole ? '' : 'and more '}would ${verb}: ${counts.join(', ')}`];
+  if (first) {
+    const cases = first.cases > 1 ? `, the first of ${first.whole ? '' : 'more than '}${first.cases} cases` : '';
+    lines.push(`${first.clause} (${first.section})${cases}`, ...printer.steps(first.steps),
+      ...first.lines.map((line) => `  ${printer.reason(line)}`));
+  }
+  return lines;
+}
+
+function namedLines({ outcomes, reasons }, printer) {
+  if (outcomes.length === 0) return reasonLines('no such outcome', 'come to it', reasons, printer);
+  return outcomes.flatMap((outcome) => [outcomeLine(outcome), ...(outcome.example ? printer.steps(outcome.example.steps) : [])]);
+}
+
+// The three lines that a report of jslit ends with; where nothing is asked, nothing fails.
+const briefOf = ({ outcomes, verdict, races }) =>
+  [`outcomes ${outcomes.length}`, `verdict ${verdict ?? 'always'}`, `data race ${races.is === 'none found' ? 'unknown' : races.is}`];
+
+// All lines of an answer.
+function linesOf({ outcomes, verdict, examples, races, hangs, why, named, notes, texts, isAll }, printer) {
+  if (named) return namedLines(named, printer);
+  const lines = outcomes.flatMap((outcome, place) =>
+    [outcomeLine(outcome), ...(examples[place] ? printer.steps(examples[place].steps) : [])]);
+  lines.push(`outcomes ${outcomes.length}`);
+  const failing = outcomes.filter(({ holds }) => !holds).length;
+  if (verdict !== null) lines.push(`check ${verdict}${verdict === 'always' ? '' : `, fails in ${failing} of ${outcomes.length}`}`);
+  if (why) lines.push(...reasonLines('why', 'fail it', why, printer));
+  lines.push(...raceLines(races, isAll, printer), ...hangLines(hangs, isAll, printer));
+  if (outcomes.length === 0) lines.push('note: no execution ends: each has a loop that waits for what no agent does');
+  for (const note of notes) lines.push(`note: ${note}`);
+  if (outcomes.some(({ isPerhaps }) => isPerhaps)) lines.push(`note: ${PERHAPS}`);
+  const [of, them] = texts.length === 1 ? ['one text', 'it'] : [`${texts.length} texts`, 'them'];
+  lines.push(`proved: the outcomes of ${of} (--text prints ${them}); tested, not proved: that these are this program. `
+    + 'Executions that end are listed, no others.');
+  return lines;
+}
+
+module.exports = { Printer, briefOf, linesOf, outcomeLine };

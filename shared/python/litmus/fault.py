@@ -1,0 +1,10 @@
+"""What a tool says instead of doing its work."""
+from litmus import statuses
+
+
+class Fault(Exception):
+    """What is said, and the status with which the tool ends then."""
+
+    def __init__(self, said, status=statuses.NO):
+        super().__init__(said)
+        self.status = status

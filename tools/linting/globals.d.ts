@@ -1,0 +1,8 @@
+// What scripts have that no file of theirs declares: Node's, and what a program for an engine is put together of, by shared/javascript/program.js.
+declare const require: any, module: any, exports: any, process: any, Buffer: any, __dirname: string, __filename: string, global: any;
+declare const AGENT: number, AGENTS: number, REGISTERS: number, SETTINGS: any, SCRIPTS: string[], MIXES: boolean;
+declare function copy(...given: any[]): void;
+// What the agents of jslit-js run on, by shared/javascript/js/run.js.
+declare const host: any;
+declare function say(...given: any[]): void;
+declare const setSharedArrayBuffer: any, getSharedArrayBuffer: any, evalInWorker: any, sleep: any, readline: any, setImmediate: any, gc: any;

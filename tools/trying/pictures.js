@@ -1,0 +1,39 @@
+'use strict';
+// pictures.js TEXT WHY: pictures of executions, asked for by a line of JSON each on standard input: {kind, file, sources, values, unmet}, of the
+// kinds of shared/javascript/executions/scenes.js. For each it prints a line: its title, words, memory-order, data races, graph, and the
+// edges that go through a box; or why there is none. TEXT and WHY are the paths of jslit-text and jslit-why.
+
+const fs = require('fs');
+const { stayTogether } = require('../../shared/javascript/command.js');
+const { hits } = require('../../shared/javascript/executions/picture.js');
+const scenes = require('../../shared/javascript/executions/scenes.js');
+const { tellText, tellWhy } = require('../../shared/javascript/programs.js');
+
+// Edges that go through a box: lines that meet one in which they neither begin nor end.
+function through({ boxes, segments }) {
+  const isIn = ([x, y], box) => Math.abs(x - box[0]) < box[2] && Math.abs(y - box[1]) < box[3];
+  return segments.filter(([start, end]) => [...boxes.values()].some((box) => hits(start, end, box, -1) && !isIn(start, box) && !isIn(end, box)));
+}
+
+async function drawn(text, why, { kind, file, sources = {}, values = {}, unmet = false }) {
+  const data = fs.readFileSync(file);
+  const { test } = await tellText(text, file, data);
+  const ask = (words) => tellWhy(why, words, file, data);
+  const given = {
+    example: [new Map(Object.entries(sources)), new Map(Object.entries(values))], chosen: [new Map(Object.entries(sources))], attempt: [unmet], race: [],
+  }[kind];
+  const drawing = await scenes[kind](ask, data.toString('latin1'), test, ...given);
+  const picture = drawing.laidOut();
+  const { order, races } = drawing.execution;
+  return { title: drawing.title, words: drawing.words, order, races, graph: picture.graph(), through: through(picture) };
+}
+
+async function main([text, why]) {
+  stayTogether();
+  for (const line of fs.readFileSync(0, 'utf8').split('\n').filter(Boolean)) {
+    const answer = await drawn(text, why, JSON.parse(line)).catch((error) => ({ fault: error.message }));
+    process.stdout.write(`${JSON.stringify(answer)}\n`);
+  }
+}
+
+main(process.argv.slice(2));
