@@ -1,8 +1,8 @@
 //! The limits of a text and of a test.
 
-ghost use Rattle.std.specs.Prelude.{◌≡◌, codes, IfOk};
-ghost use Rattle.serde_json.specs.Data.{member, no_members, number, object, unsigned};
+ghost use Rattle.std.specs.Prelude.{◌≡◌, IfOk};
 ghost use Rattle.serde_json.specs.View.{view};
+ghost use Rattle.lit_json.specs.Told.{limits_data};
 
 use lit_paths::{ACCESS_LIMIT, CHOICE_LIMIT, COMBINATION_LIMIT};
 use lit_syntax::{
@@ -16,20 +16,7 @@ use std::alloc::{AllocError, Global};
 /// greatest number compared with, open `if`s, `!` and `(` around a comparison, accesses on a combination of paths, combinations
 /// and choices.
 pub fn limits_value(alloc: Global) -> Result<Value, AllocError>
-    ensures { IfOk result (λ v. view v ≡ object
-        (member (codes "accesses") (number (unsigned ACCESS_LIMIT))
-        (member (codes "agents") (number (unsigned AGENT_LIMIT))
-        (member (codes "block") (number (unsigned BLOCK_LIMIT))
-        (member (codes "choices") (number (unsigned CHOICE_LIMIT))
-        (member (codes "combinations") (number (unsigned COMBINATION_LIMIT))
-        (member (codes "compared") (number (unsigned COMPARED_LIMIT))
-        (member (codes "depth") (number (unsigned DEPTH_LIMIT))
-        (member (codes "digits") (number (unsigned DIGIT_LIMIT))
-        (member (codes "ifs") (number (unsigned IF_LIMIT))
-        (member (codes "registers") (number (unsigned REGISTERS))
-        (member (codes "text") (number (unsigned TEXT_LIMIT))
-        (member (codes "word") (number (unsigned WORD_LIMIT))
-        no_members))))))))))))) }
+    ensures { IfOk result (λ v. view v ≡ limits_data) }
 {
     json!(in alloc; {
         "text": TEXT_LIMIT as u64,

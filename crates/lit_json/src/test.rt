@@ -1,6 +1,8 @@
 //! A test: its name, its block, its agents and its condition.
 
-ghost use Rattle.std.specs.Prelude.{◌<◌, length};
+ghost use Rattle.std.specs.Prelude.{◌<◌, IfOk, length};
+ghost use Rattle.serde_json.specs.View.{view};
+ghost use Rattle.lit_json.specs.Told.{IsTestData};
 
 use crate::conditions::condition_value;
 use crate::statements::{Lines, statements_value};
@@ -37,7 +39,9 @@ fn agents_value(alloc: Global, lines: &[usize], test: &Test) -> Result<Value, Al
 }
 
 /// A test, of a text whose statements begin on these lines.
-pub(crate) fn test_value(alloc: Global, lines: &[usize], test: &Test) -> Result<Value, AllocError> {
+pub(crate) fn test_value(alloc: Global, lines: &[usize], test: &Test) -> Result<Value, AllocError>
+    ensures { IfOk result (λ v. IsTestData test.now (view v)) }
+{
     let agents = agents_value(alloc, lines, test)?;
     let condition = condition_value(alloc, test, test.check())?;
     json!(in alloc; {

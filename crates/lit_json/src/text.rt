@@ -1,5 +1,10 @@
 //! All that a text says.
 
+ghost use Rattle.std.specs.Prelude.{◌≡◌, IfOk};
+ghost use Rattle.serde_json.specs.View.{view};
+ghost use Rattle.lit_read.specs.Spelling.{Spells};
+ghost use Rattle.lit_json.specs.Told.{IsTold, told_data};
+
 use crate::counts::counts_value;
 use crate::faults::{plan_fault_value, read_fault_value};
 use crate::limits::limits_value;
@@ -13,50 +18,51 @@ use std::alloc::{AllocError, Global};
 /// The number of the form of the JSON. It grows where a reader of the form before may go wrong.
 pub const FORM: u64 = 1;
 
-/// The parts of what a text says that depend on the text.
-#[derive(Drop)]
-struct Parts {
+/// The JSON with these members.
+fn told(
+    alloc: Global,
+    version: &str,
     test: Value,
     counts: Value,
     fault: Value,
+) -> Result<Value, AllocError>
+    ensures { IfOk result (λ v. view v ≡ told_data version.now (view test) (view counts) (view fault)) }
+{
+    let limits = limits_value(alloc)?;
+    json!(in alloc; {
+        "form": FORM, "jslit": version, "limits": limits, "fault": fault, "test": test, "counts": counts
+    })
 }
 
-/// The parts where the text spells a test.
-fn parts_of(alloc: Global, text: &[u8], test: &Test) -> Result<Parts, AllocError> {
+/// What a text says that spells this test.
+fn test_told(alloc: Global, version: &str, text: &[u8], test: &Test) -> Result<Value, AllocError>
+    requires { Spells text.now test.now }
+    ensures { IfOk result (λ v. IsTold version.now text.now (view v)) }
+{
     let lines = statement_lines(alloc, text)?;
     let value = test_value(alloc, &lines, test)?;
     match plan(alloc, test) {
-        Ok(plan) => Ok(Parts {
-            test: value,
-            counts: counts_value(alloc, &plan)?,
-            fault: Value::Null,
-        }),
-        Err(fault) => Ok(Parts {
-            test: value,
-            counts: Value::Null,
-            fault: plan_fault_value(alloc, fault)?,
-        }),
+        Ok(plan) => {
+            let counts = counts_value(alloc, &plan)?;
+            told(alloc, version, value, counts, Value::Null)
+        }
+        Err(fault) => {
+            let fault = plan_fault_value(alloc, fault)?;
+            told(alloc, version, value, Value::Null, fault)
+        }
     }
 }
 
 /// What a text says, with the version and the limits: the members `form`, `jslit`, `limits`, `fault`, `test` and `counts`. A text
 /// that spells no test has a fault with its line and no test; a test that is too large has both, and no counts.
-pub fn text_value(alloc: Global, version: &str, text: &[u8]) -> Result<Value, AllocError> {
-    let limits = limits_value(alloc)?;
-    let parts = match read(alloc, text) {
-        Ok(test) => parts_of(alloc, text, &test)?,
-        Err(fault) => Parts {
-            test: Value::Null,
-            counts: Value::Null,
-            fault: read_fault_value(alloc, fault)?,
-        },
-    };
-    let Parts {
-        test,
-        counts,
-        fault,
-    } = parts;
-    json!(in alloc; {
-        "form": FORM, "jslit": version, "limits": limits, "fault": fault, "test": test, "counts": counts
-    })
+pub fn text_value(alloc: Global, version: &str, text: &[u8]) -> Result<Value, AllocError>
+    ensures { IfOk result (λ v. IsTold version.now text.now (view v)) }
+{
+    match read(alloc, text) {
+        Ok(test) => test_told(alloc, version, text, &test),
+        Err(fault) => {
+            let fault = read_fault_value(alloc, fault)?;
+            told(alloc, version, Value::Null, Value::Null, fault)
+        }
+    }
 }

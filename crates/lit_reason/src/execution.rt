@@ -1,52 +1,30 @@
 //! An execution as JSON: its events with their lines, sources and values, its relations, what refuses it, and its data races.
 
-use crate::clauses::clause_of;
+use crate::refusals::refusal_value;
 use crate::scene::Scene;
 use lit_paths::{Event, Kind, Order3};
 use lit_rel::Rows;
-use lit_why::{DerivationLine, Reason, Refusal, StepKind, is_data_race};
-use std::alloc::Global;
-use std::io;
-use std::io::Write;
+use lit_why::is_data_race;
+use serde_json::{Value, json};
+use std::alloc::{AllocError, Global};
 
-/// Puts what stands before a member of a list: nothing before the first.
-fn put_comma(buffer: &mut Vec<u8>, first: &mut bool) -> io::Result<()> {
-    if *first {
-        *first = false;
-        return Ok(());
-    }
-    buffer.write_all(b",")
+/// The name of an event.
+pub(crate) fn name_value(alloc: Global, scene: &Scene<'_>, event: u8) -> Result<Value, AllocError> {
+    Ok(Value::String(scene.name_of(alloc, event)?))
 }
 
-/// Puts the name of an event as a string.
-fn put_name(buffer: &mut Vec<u8>, scene: &Scene<'_>, event: u8) -> io::Result<()> {
-    buffer.write_all(b"\"")?;
-    scene.put_event(buffer, event)?;
-    buffer.write_all(b"\"")
-}
-
-/// Puts a list of the names of two events.
-fn put_pair(buffer: &mut Vec<u8>, scene: &Scene<'_>, first: u8, second: u8) -> io::Result<()> {
-    buffer.write_all(b"[")?;
-    put_name(buffer, scene, first)?;
-    buffer.write_all(b",")?;
-    put_name(buffer, scene, second)?;
-    buffer.write_all(b"]")
-}
-
-/// Puts the pairs of a relation.
-fn put_rows(buffer: &mut Vec<u8>, scene: &Scene<'_>, rows: &Rows) -> io::Result<()> {
-    let mut first = true;
-    buffer.write_all(b"[")?;
-    for a in 0..rows.len() {
-        for d in 0..rows.len() {
-            if rows.holds(a, d) {
-                put_comma(buffer, &mut first)?;
-                put_pair(buffer, scene, a as u8, d as u8)?;
-            }
-        }
-    }
-    buffer.write_all(b"]")
+/// The names of two events.
+pub(crate) fn pair_value(
+    alloc: Global,
+    scene: &Scene<'_>,
+    first: u8,
+    second: u8,
+) -> Result<Value, AllocError> {
+    let (first, second) = (
+        name_value(alloc, scene, first)?,
+        name_value(alloc, scene, second)?,
+    );
+    json!(in alloc; [first, second])
 }
 
 /// The kind of an event.
@@ -67,278 +45,128 @@ fn order_of(event: &Event) -> &'static str {
     }
 }
 
-/// A kind of step of happens-before.
-fn step_of(kind: StepKind) -> &'static str {
-    match kind {
-        StepKind::AgentOrder => "agent-order",
-        StepKind::SynchronizesWith => "synchronizes-with",
-        StepKind::MadeBefore => "made-before",
-    }
+/// An event, by its number. What it reads is null also where the sources of a byte store several values.
+fn event_value(
+    alloc: Global,
+    scene: &Scene<'_>,
+    number: u8,
+    event: &Event,
+) -> Result<Value, AllocError> {
+    let name = name_value(alloc, scene, number)?;
+    let reads = if event.kind.does_read() {
+        scene.value(number)
+    } else {
+        None
+    };
+    let writes = if event.kind.does_write() {
+        Some(u32::from_le_bytes(event.payload))
+    } else {
+        None
+    };
+    json!(in alloc; {
+        "name": name, "line": scene.line_of(number), "kind": kind_of(event), "order": order_of(event), "no_tear": event.no_tear,
+        "first": event.first, "size": event.size, "reads": reads, "writes": writes
+    })
 }
 
-/// Puts a number, or null where there is none.
-fn put_number(buffer: &mut Vec<u8>, number: Option<usize>) -> io::Result<()> {
-    match number {
-        Some(number) => write!(buffer, "{number}"),
-        None => buffer.write_all(b"null"),
+/// All events, in the order of their numbers.
+fn events_value(alloc: Global, scene: &Scene<'_>) -> Result<Value, AllocError> {
+    let mut list = Vec::new(alloc);
+    for (number, event) in scene.part.combination().events().iter().enumerate() {
+        list.push(event_value(alloc, scene, number as u8, event)?)?;
     }
+    Ok(Value::Array(list))
 }
 
-/// Puts an event, by its number.
-fn put_event(buffer: &mut Vec<u8>, scene: &Scene<'_>, number: u8, event: &Event) -> io::Result<()> {
-    buffer.write_all(b"{\"name\":")?;
-    put_name(buffer, scene, number)?;
-    buffer.write_all(b",\"line\":")?;
-    put_number(buffer, scene.line_of(number))?;
-    let (kind, order) = (kind_of(event), order_of(event));
-    write!(
-        buffer,
-        ",\"kind\":\"{kind}\",\"order\":\"{order}\",\"no_tear\":{}",
-        event.no_tear
-    )?;
-    write!(buffer, ",\"first\":{},\"size\":{}", event.first, event.size)?;
-    if event.kind.does_read() {
-        if let Some(value) = scene.value(number) {
-            write!(buffer, ",\"reads\":{value}")?;
+/// The source of each byte that is read, of a case of each that is given.
+fn sources_value(alloc: Global, scene: &Scene<'_>) -> Result<Value, AllocError> {
+    let mut list = Vec::new(alloc);
+    for (place, byte) in scene.part.combination().byte_reads().iter().enumerate() {
+        if let Some(source) = scene.source_at(place) {
+            let read = name_value(alloc, scene, byte.read)?;
+            let source = name_value(alloc, scene, source)?;
+            list.push(json!(in alloc; {"read": read, "byte": byte.byte, "source": source})?)?;
         }
     }
-    if event.kind.does_write() {
-        write!(buffer, ",\"writes\":{}", u32::from_le_bytes(event.payload))?;
-    }
-    buffer.write_all(b"}")
+    Ok(Value::Array(list))
 }
 
-/// Puts all events.
-fn put_events(buffer: &mut Vec<u8>, scene: &Scene<'_>) -> io::Result<()> {
-    let mut first = true;
-    buffer.write_all(b"\"events\":[")?;
-    for (number, event) in scene.part.combination().events().iter().enumerate() {
-        put_comma(buffer, &mut first)?;
-        put_event(buffer, scene, number as u8, event)?;
+/// The pairs of a relation.
+fn rows_value(alloc: Global, scene: &Scene<'_>, rows: &Rows) -> Result<Value, AllocError> {
+    let mut list = Vec::new(alloc);
+    for a in 0..rows.len() {
+        for d in 0..rows.len() {
+            if rows.holds(a, d) {
+                list.push(pair_value(alloc, scene, a as u8, d as u8)?)?;
+            }
+        }
     }
-    buffer.write_all(b"]")
+    Ok(Value::Array(list))
 }
 
-/// Puts the source of each byte that is read, of a case of each that is given.
-fn put_sources(buffer: &mut Vec<u8>, scene: &Scene<'_>) -> io::Result<()> {
-    let mut first = true;
-    buffer.write_all(b",\"from\":[")?;
-    for (place, byte) in scene.part.combination().byte_reads().iter().enumerate() {
-        let Some(source) = scene.source_at(place) else {
-            continue;
-        };
-        put_comma(buffer, &mut first)?;
-        buffer.write_all(b"{\"read\":")?;
-        put_name(buffer, scene, byte.read)?;
-        write!(buffer, ",\"byte\":{},\"source\":", byte.byte)?;
-        put_name(buffer, scene, source)?;
-        buffer.write_all(b"}")?;
-    }
-    buffer.write_all(b"]")
-}
-
-/// Puts what may not stand between each source and its read.
-fn put_forbidden(buffer: &mut Vec<u8>, scene: &Scene<'_>) -> io::Result<()> {
+/// What may not stand between each source and its read.
+fn forbidden_value(alloc: Global, scene: &Scene<'_>) -> Result<Value, AllocError> {
     let between = &scene.between;
-    let mut first = true;
-    buffer.write_all(b",\"forbidden\":[")?;
+    let mut list = Vec::new(alloc);
     for pair in between.pairs() {
         for other in 0..between.len() {
             if pair.others.contains(other) {
-                put_comma(buffer, &mut first)?;
-                buffer.write_all(b"{\"source\":")?;
-                put_name(buffer, scene, pair.source)?;
-                buffer.write_all(b",\"read\":")?;
-                put_name(buffer, scene, pair.read)?;
-                buffer.write_all(b",\"other\":")?;
-                put_name(buffer, scene, other as u8)?;
-                buffer.write_all(b"}")?;
+                let source = name_value(alloc, scene, pair.source)?;
+                let read = name_value(alloc, scene, pair.read)?;
+                let other = name_value(alloc, scene, other as u8)?;
+                list.push(json!(in alloc; {"source": source, "read": read, "other": other})?)?;
             }
         }
     }
-    buffer.write_all(b"]")
+    Ok(Value::Array(list))
 }
 
-/// Puts the pairs of events that are in a data race, the lesser number first; of a case none.
-fn put_races(buffer: &mut Vec<u8>, scene: &Scene<'_>) -> io::Result<()> {
+/// The pairs of events that are in a data race, the lesser number first; of a case none.
+fn races_value(alloc: Global, scene: &Scene<'_>) -> Result<Value, AllocError> {
     let count = scene.part.combination().events().len();
-    let mut first = true;
-    buffer.write_all(b",\"races\":[")?;
+    let mut list = Vec::new(alloc);
     for a in 0..count {
         for d in a..count {
             if !scene.is_case() && is_data_race(&scene.part, a as u8, d as u8) {
-                put_comma(buffer, &mut first)?;
-                put_pair(buffer, scene, a as u8, d as u8)?;
+                list.push(pair_value(alloc, scene, a as u8, d as u8)?)?;
             }
         }
     }
-    buffer.write_all(b"]")
+    Ok(Value::Array(list))
 }
 
-/// Puts a shortest chain of happens-before from one event to another; an empty list where there is none.
-fn put_chain(buffer: &mut Vec<u8>, scene: &Scene<'_>, from: u8, to: u8) -> io::Result<()> {
-    let mut first = true;
-    buffer.write_all(b"[")?;
-    if let Some(chain) = scene.chain_between(from, to) {
-        let mut from = from;
-        for link in chain.links.as_slice() {
-            put_comma(buffer, &mut first)?;
-            buffer.write_all(b"{\"before\":")?;
-            put_name(buffer, scene, from)?;
-            buffer.write_all(b",\"after\":")?;
-            put_name(buffer, scene, link.to)?;
-            write!(buffer, ",\"step\":\"{}\"}}", step_of(link.kind))?;
-            from = link.to;
-        }
-    }
-    buffer.write_all(b"]")
-}
-
-/// Puts the members of an object that say why a byte is not coherent.
-fn put_incoherent(
-    buffer: &mut Vec<u8>,
-    scene: &Scene<'_>,
-    read: u8,
-    source: u8,
-    hidden_by: Option<u8>,
-) -> io::Result<()> {
-    buffer.write_all(b",\"source\":")?;
-    put_name(buffer, scene, source)?;
-    let Some(other) = hidden_by else {
-        buffer.write_all(b",\"hidden_by\":null,\"chains\":[")?;
-        put_chain(buffer, scene, read, source)?;
-        return buffer.write_all(b"]");
-    };
-    buffer.write_all(b",\"hidden_by\":")?;
-    put_name(buffer, scene, other)?;
-    buffer.write_all(b",\"chains\":[")?;
-    put_chain(buffer, scene, source, other)?;
-    buffer.write_all(b",")?;
-    put_chain(buffer, scene, other, read)?;
-    buffer.write_all(b"]")
-}
-
-/// Puts a line of a derivation.
-fn put_line(buffer: &mut Vec<u8>, scene: &Scene<'_>, line: &DerivationLine) -> io::Result<()> {
-    buffer.write_all(b"{\"before\":")?;
-    put_name(buffer, scene, line.before)?;
-    buffer.write_all(b",\"after\":")?;
-    put_name(buffer, scene, line.after)?;
-    match line.reason {
-        Reason::HappensBefore => {
-            buffer.write_all(b",\"reason\":\"happens-before\",\"chain\":")?;
-            put_chain(buffer, scene, line.before, line.after)?;
-        }
-        Reason::Joined { first, second } => write!(
-            buffer,
-            ",\"reason\":\"joined\",\"lines\":[{first},{second}]"
-        )?,
-        Reason::BeforeSource { read, earlier } => {
-            buffer.write_all(b",\"reason\":\"before-source\",\"read\":")?;
-            put_name(buffer, scene, read)?;
-            write!(buffer, ",\"lines\":[{earlier}]")?;
-        }
-        Reason::AfterRead { source, earlier } => {
-            buffer.write_all(b",\"reason\":\"after-read\",\"source\":")?;
-            put_name(buffer, scene, source)?;
-            write!(buffer, ",\"lines\":[{earlier}]")?;
-        }
-    }
-    buffer.write_all(b"}")
-}
-
-/// Puts a derivation, or null where there is none.
-fn put_derivation(alloc: Global, buffer: &mut Vec<u8>, scene: &Scene<'_>) -> io::Result<()> {
-    buffer.write_all(b",\"derivation\":")?;
-    let Some(lines) = scene.cycle(alloc)? else {
-        return buffer.write_all(b"null");
-    };
-    let mut first = true;
-    buffer.write_all(b"[")?;
-    for line in lines.iter() {
-        put_comma(buffer, &mut first)?;
-        put_line(buffer, scene, line)?;
-    }
-    buffer.write_all(b"]")
-}
-
-/// Puts what refuses a choice, or null.
-fn put_refusal(alloc: Global, buffer: &mut Vec<u8>, scene: &Scene<'_>) -> io::Result<()> {
-    buffer.write_all(b",\"refusal\":")?;
-    let Some(refusal) = scene.refusal else {
-        return buffer.write_all(b"null");
-    };
-    write!(buffer, "{{\"clause\":\"{}\"", clause_of(refusal).name)?;
-    match refusal {
-        Refusal::FalseGuard { agent, place } => {
-            write!(buffer, ",\"agent\":{agent},\"guard\":{place},\"line\":")?;
-            put_number(buffer, scene.line_of_guard(alloc, agent, place)?)?;
-        }
-        Refusal::BeforeItself { event } => {
-            buffer.write_all(b",\"event\":")?;
-            put_name(buffer, scene, event)?;
-            buffer.write_all(b",\"chains\":[")?;
-            put_chain(buffer, scene, event, event)?;
-            buffer.write_all(b"]")?;
-        }
-        Refusal::Incoherent {
-            read,
-            byte,
-            source,
-            hidden_by,
-        } => {
-            buffer.write_all(b",\"read\":")?;
-            put_name(buffer, scene, read)?;
-            write!(buffer, ",\"byte\":{byte}")?;
-            put_incoherent(buffer, scene, read, source, hidden_by)?;
-        }
-        Refusal::Torn {
-            read,
-            source,
-            other,
-        } => {
-            buffer.write_all(b",\"read\":")?;
-            put_name(buffer, scene, read)?;
-            buffer.write_all(b",\"sources\":")?;
-            put_pair(buffer, scene, source, other)?;
-        }
-        Refusal::NoOrder => put_derivation(alloc, buffer, scene)?,
-    }
-    buffer.write_all(b"}")
-}
-
-/// Puts a memory-order, or null where there is none.
-fn put_order(buffer: &mut Vec<u8>, scene: &Scene<'_>, order: Option<&[u8]>) -> io::Result<()> {
-    buffer.write_all(b",\"order\":")?;
-    let Some(order) = order else {
-        return buffer.write_all(b"null");
-    };
-    let mut first = true;
-    buffer.write_all(b"[")?;
-    for event in order {
-        put_comma(buffer, &mut first)?;
-        put_name(buffer, scene, *event)?;
-    }
-    buffer.write_all(b"]")
-}
-
-/// Puts a choice as an object, with a memory-order where it has one.
-pub(crate) fn put_execution(
+/// A memory-order, or null where there is none.
+fn order_value(
     alloc: Global,
-    buffer: &mut Vec<u8>,
     scene: &Scene<'_>,
     order: Option<&[u8]>,
-) -> io::Result<()> {
-    buffer.write_all(b"{")?;
-    put_events(buffer, scene)?;
-    put_sources(buffer, scene)?;
-    buffer.write_all(b",\"synchronizes_with\":")?;
-    put_rows(buffer, scene, &scene.synchronizes)?;
-    buffer.write_all(b",\"happens_before\":")?;
-    put_rows(buffer, scene, &scene.before)?;
-    put_forbidden(buffer, scene)?;
-    put_order(buffer, scene, order)?;
-    put_refusal(alloc, buffer, scene)?;
-    put_races(buffer, scene)?;
-    buffer.write_all(b"}")
+) -> Result<Value, AllocError> {
+    let Some(order) = order else {
+        return Ok(Value::Null);
+    };
+    let mut list = Vec::new(alloc);
+    for event in order {
+        list.push(name_value(alloc, scene, *event)?)?;
+    }
+    Ok(Value::Array(list))
+}
+
+/// A choice, with a memory-order where it has one.
+pub(crate) fn execution_value(
+    alloc: Global,
+    scene: &Scene<'_>,
+    order: Option<&[u8]>,
+) -> Result<Value, AllocError> {
+    let events = events_value(alloc, scene)?;
+    let sources = sources_value(alloc, scene)?;
+    let synchronizes = rows_value(alloc, scene, &scene.synchronizes)?;
+    let before = rows_value(alloc, scene, &scene.before)?;
+    let forbidden = forbidden_value(alloc, scene)?;
+    let order = order_value(alloc, scene, order)?;
+    let refusal = refusal_value(alloc, scene)?;
+    let races = races_value(alloc, scene)?;
+    json!(in alloc; {
+        "events": events, "from": sources, "synchronizes_with": synchronizes, "happens_before": before, "forbidden": forbidden,
+        "order": order, "refusal": refusal, "races": races
+    })
 }

@@ -1,10 +1,14 @@
 //! The answer to a question on a litmus text.
 
+ghost use Rattle.std.specs.Prelude.{IfErr, IfOk, OnOk};
+ghost use Rattle.lit_reason.specs.Explained.{HasAnswerOn, IsFaultOn, IsFoundOn, IsWithinLimits};
+ghost use Rattle.lit_reason.specs.Internal.Subjects.{IsSubjectOf, IsTestFault};
+
 use crate::choices::explain_choice;
 use crate::classes::explain_class;
 use crate::cores::text_before_condition;
 use crate::fault::ReasonFault;
-use crate::json::{put_class, put_named_choice, put_no_choice, put_race};
+use crate::json::{choice_value, class_value, no_choice_value, race_value};
 use crate::question::{Asked, Question};
 use crate::races::explain_race;
 use crate::selection::select;
@@ -13,7 +17,8 @@ use lit_paths::{Plan, plan};
 use lit_read::{ReadKind, read};
 use lit_search::Class;
 use lit_syntax::Test;
-use std::alloc::Global;
+use serde_json::Value;
+use std::alloc::{AllocError, Global};
 use std::io;
 use std::io::Write;
 
@@ -47,7 +52,9 @@ fn subject_of(
     plan: &Plan<'_>,
     statements: &Statements,
     question: Question<'_>,
-) -> io::Result<Subject> {
+) -> io::Result<Subject>
+    ensures { IfOk result (IsSubjectOf plan.now question) }
+{
     Ok(match question {
         Question::InClass(class) => Subject::InClass(class),
         Question::Race => Subject::Race,
@@ -82,23 +89,22 @@ fn put_text(
     }
 }
 
-/// Puts the answer about a subject as JSON.
-fn put_json(
+/// The answer about a subject as JSON.
+fn json_of(
     alloc: Global,
-    buffer: &mut Vec<u8>,
     plan: &Plan<'_>,
     statements: &Statements,
     subject: Subject,
     most: usize,
-) -> io::Result<()> {
+) -> Result<Value, AllocError> {
     match subject {
-        Subject::InClass(class) => put_class(alloc, buffer, plan, statements, class, most),
-        Subject::Race => put_race(alloc, buffer, plan, statements),
+        Subject::InClass(class) => class_value(alloc, plan, statements, class, most),
+        Subject::Race => race_value(alloc, plan, statements),
         Subject::OfChoice(choice) if choice < plan.total() => {
-            put_named_choice(alloc, buffer, plan, statements, choice)
+            choice_value(alloc, plan, statements, choice)
         }
         Subject::OfChoice(_) | Subject::OfNoNumber | Subject::OfNoSources => {
-            put_no_choice(buffer, plan)
+            no_choice_value(alloc, plan)
         }
     }
 }
@@ -110,10 +116,14 @@ fn put_answer(
     plan: &Plan<'_>,
     statements: &Statements,
     asked: &Asked<'_>,
-) -> io::Result<bool> {
+) -> io::Result<bool>
+    ensures { IfOk result (IsFoundOn plan.now asked.now.question) }
+{
     let subject = subject_of(alloc, plan, statements, asked.question)?;
     if asked.json {
-        put_json(alloc, buffer, plan, statements, subject, asked.most)?;
+        let value = json_of(alloc, plan, statements, subject, asked.most)?;
+        buffer.write_all(&value.to_vec(alloc)?)?;
+        buffer.write_all(b"\n")?;
     } else {
         put_text(alloc, buffer, plan, statements, subject, asked.most)?;
     }
@@ -134,7 +144,11 @@ fn explain_test(
     test: &Test,
     statements: &Statements,
     asked: &Asked<'_>,
-) -> Result<Answer, ReasonFault> {
+) -> Result<Answer, ReasonFault>
+    ensures planned { OnOk result (IsWithinLimits test.now) }
+    ensures found { IfOk result (λ answer. IsFoundOn test.now asked.now.question answer.found) }
+    ensures fault { IfErr result (IsTestFault test.now) }
+{
     let plan = plan(alloc, test)?;
     let mut text = Vec::new(alloc);
     // Writing into the text fails only where memory for its growth is refused.
@@ -147,7 +161,10 @@ fn explain_test(
 /// The answer to a question on a litmus text. Answers `ReasonFault::Read` with the first fault of a text that spells no test,
 /// `ReasonFault::Plan` with the limit that a test exceeds, `ReasonFault::Condition` where the condition that is asked about is none of
 /// the test, and `ReasonFault::OutOfMemory` where a growth was refused.
-pub fn explain(alloc: Global, text: &[u8], asked: &Asked<'_>) -> Result<Answer, ReasonFault> {
+pub fn explain(alloc: Global, text: &[u8], asked: &Asked<'_>) -> Result<Answer, ReasonFault>
+    ensures answered { IfOk result (HasAnswerOn text.now asked.now) }
+    ensures fault { IfErr result (IsFaultOn text.now asked.now) }
+{
     let test = read(alloc, text)?;
     let statements = Statements::of(alloc, text)?;
     let Some(condition) = asked.condition else {

@@ -5,17 +5,16 @@ ghost use Rattle.lit_paths.specs.Choice.{choices_of};
 
 use lit_paths::Plan;
 use lit_search::{Found, search_range};
-use std::alloc::Global;
-use std::io;
+use std::alloc::{AllocError, Global};
 
 /// The report of a choice alone. It has no outcome where no valid execution has the choice.
-pub(crate) fn found_of(alloc: Global, plan: &Plan<'_>, choice: u64) -> io::Result<Found>
+pub(crate) fn found_of(alloc: Global, plan: &Plan<'_>, choice: u64) -> Result<Found, AllocError>
     requires { choice < length (choices_of plan.now) }
 {
     // Tells the prover that numbers of choices are small, so that one more fits.
     let _total = plan.total();
     match search_range(alloc, &*plan, choice, choice + 1) {
         Ok(found) => Ok(found),
-        Err(_) => Err(io::Error::from(io::ErrorKind::OutOfMemory)),
+        Err(_) => Err(AllocError),
     }
 }

@@ -1,13 +1,13 @@
-//! The answer as one line of JSON.
+//! The answer as one line of JSON. `docs/schemas/why.json` has the form.
 
 ghost use Rattle.std.specs.Prelude.{◌<◌, length};
 ghost use Rattle.lit_paths.specs.Choice.{choices_of};
 
-use crate::attempts::Tally;
+use crate::attempts::{Tally, Told};
 use crate::classes::verdict_without;
-use crate::clauses::clause_at;
+use crate::clauses::{CLAUSE_COUNT, clause_at};
 use crate::cores::put_core;
-use crate::execution::put_execution;
+use crate::execution::execution_value;
 use crate::found::found_of;
 use crate::scene::Scene;
 use crate::statements::Statements;
@@ -15,163 +15,195 @@ use lit_paths::Plan;
 use lit_search::{Class, first_in};
 use lit_why::{attempts, first_race};
 use lit_words::VERSION;
-use std::alloc::Global;
-use std::io;
-use std::io::Write;
+use serde_json::{Map, Value, json};
+use std::alloc::{AllocError, Global};
 
-/// Puts the members that each answer begins with: the version and the test's name.
-fn put_head(buffer: &mut Vec<u8>, plan: &Plan<'_>) -> io::Result<()> {
-    let version = VERSION.lines().next().unwrap_or("");
-    write!(
-        buffer,
-        "{{\"jslit\":\"{version}\",\"test\":\"{}\"",
-        plan.test().name()
-    )
+/// The number of the form of the JSON. It grows where a reader of the form before may go wrong.
+const FORM: u64 = 1;
+
+/// The members of an answer.
+type Members = Map<String, Value>;
+
+/// Puts a member.
+fn put(alloc: Global, members: &mut Members, name: &str, value: Value) -> Result<(), AllocError> {
+    members.insert(String::from_str(alloc, name)?, value)?;
+    Ok(())
 }
 
-/// Puts a choice as the member `execution`, with its least memory-order where it has one.
+/// The members that each answer has: the form of the JSON, the version and the test's name.
+fn head(alloc: Global, plan: &Plan<'_>) -> Result<Members, AllocError> {
+    let mut members = Map::new(alloc);
+    let version = VERSION.lines().next().unwrap_or("");
+    put(alloc, &mut members, "form", Value::from(FORM))?;
+    put(alloc, &mut members, "jslit", json!(in alloc; version)?)?;
+    put(
+        alloc,
+        &mut members,
+        "test",
+        json!(in alloc; plan.test().name())?,
+    )?;
+    Ok(members)
+}
+
+/// Puts a choice, with its least memory-order where it has one.
 fn put_choice(
     alloc: Global,
-    buffer: &mut Vec<u8>,
+    members: &mut Members,
     plan: &Plan<'_>,
     statements: &Statements,
     choice: u64,
-) -> io::Result<()>
+) -> Result<(), AllocError>
     requires { choice < length (choices_of plan.now) }
 {
     let found = found_of(alloc, plan, choice)?;
     let scene = Scene::new(&*plan, statements, choice);
-    write!(buffer, ",\"choice\":{choice},\"execution\":")?;
-    if found.len() == 0 {
-        put_execution(alloc, buffer, &scene, None)
+    let order = if found.len() == 0 {
+        None
     } else {
-        put_execution(
-            alloc,
-            buffer,
-            &scene,
-            Some(found.example(0).order.as_slice()),
-        )
-    }
+        Some(found.example(0).order.as_slice())
+    };
+    let execution = execution_value(alloc, &scene, order)?;
+    put(alloc, members, "choice", Value::from(choice))?;
+    put(alloc, members, "execution", execution)
 }
 
-/// Puts the clauses that refuse attempts, each with the first that it refuses.
-fn put_clauses(
+/// A clause that refuses attempts, with the first that it refuses.
+fn clause_value(
     alloc: Global,
-    buffer: &mut Vec<u8>,
+    plan: &Plan<'_>,
+    statements: &Statements,
+    place: usize,
+    count: u64,
+    told: &Told,
+) -> Result<Value, AllocError>
+    requires place { place < CLAUSE_COUNT }
+    requires choice { told.now.attempt.choice < length (choices_of plan.now) }
+{
+    let clause = clause_at(place);
+    let scene = told.scene(plan, statements);
+    let execution = execution_value(alloc, &scene, None)?;
+    json!(in alloc; {
+        "clause": clause.name, "section": clause.section, "attempts": count, "choices": told.attempt.choices,
+        "cases": told.cases, "whole": told.whole, "choice": told.attempt.choice, "execution": execution
+    })
+}
+
+/// The clauses that refuse attempts, in the order in which they are checked.
+fn clauses_value(
+    alloc: Global,
     plan: &Plan<'_>,
     statements: &Statements,
     tally: &Tally,
-) -> io::Result<()> {
-    buffer.write_all(b",\"clauses\":[")?;
-    let mut first = true;
+) -> Result<Value, AllocError> {
+    let mut list = Vec::new(alloc);
     for (place, counted) in tally.counts().iter().enumerate() {
         let Some(told) = counted.first else {
             continue;
         };
-        let choice = told.attempt.choice;
-        if choice < plan.total() {
-            if !first {
-                buffer.write_all(b",")?;
-            }
-            first = false;
-            let clause = clause_at(place);
-            write!(
-                buffer,
-                "{{\"clause\":\"{}\",\"section\":\"{}\",\"attempts\":{}",
-                clause.name, clause.section, counted.count
-            )?;
-            write!(
-                buffer,
-                ",\"choices\":{},\"cases\":{},\"whole\":{},\"choice\":{choice},\"execution\":",
-                told.attempt.choices, told.cases, told.whole
-            )?;
-            let scene = told.scene(&*plan, statements);
-            put_execution(alloc, buffer, &scene, None)?;
-            buffer.write_all(b"}")?;
+        if told.attempt.choice < plan.total() {
+            list.push(clause_value(alloc, plan, statements, place, counted.count, &told)?)?;
         }
     }
-    buffer.write_all(b"]")
+    Ok(Value::Array(list))
+}
+
+/// The least part of a condition, or of its negation, that no path can make true.
+fn core_value(alloc: Global, plan: &Plan<'_>, class: Class) -> Result<Value, AllocError> {
+    let mut core = Vec::new(alloc);
+    // Writing into it fails only where memory for its growth is refused.
+    match put_core(alloc, &mut core, plan, class == Class::Met) {
+        Ok(()) => Ok(Value::String(String::from_utf8_lossy(alloc, &core)?)),
+        Err(_) => Err(AllocError),
+    }
 }
 
 /// Puts how many attempts at a class there are, and what refuses them.
 fn put_attempts(
     alloc: Global,
-    buffer: &mut Vec<u8>,
+    members: &mut Members,
     plan: &Plan<'_>,
     statements: &Statements,
     class: Class,
     most: usize,
-) -> io::Result<()> {
+) -> Result<(), AllocError> {
     let attempts = attempts(alloc, plan, class, most.saturating_add(1))?;
     let tally = Tally::count_all(alloc, plan, statements, &attempts, most)?;
-    let (verdict, count, whole) = (
-        verdict_without(class),
-        attempts.len().min(most),
-        attempts.len() <= most,
-    );
-    write!(
-        buffer,
-        ",\"verdict\":\"{verdict}\",\"attempts\":{count},\"whole\":{whole}"
-    )?;
+    let count = attempts.len().min(most);
+    let verdict = json!(in alloc; verdict_without(class))?;
+    put(alloc, members, "verdict", verdict)?;
+    put(alloc, members, "attempts", Value::from(count))?;
+    put(alloc, members, "whole", Value::from(attempts.len() <= most))?;
     if attempts.is_empty() {
-        buffer.write_all(b",\"no_path_can_make\":\"")?;
-        put_core(alloc, buffer, plan, class == Class::Met)?;
-        buffer.write_all(b"\"")?;
+        put(
+            alloc,
+            members,
+            "no_path_can_make",
+            core_value(alloc, plan, class)?,
+        )?;
     }
-    put_clauses(alloc, buffer, plan, statements, &tally)
+    let clauses = clauses_value(alloc, plan, statements, &tally)?;
+    put(alloc, members, "clauses", clauses)
 }
 
-/// Puts an example of a class, or why there is none.
-pub(crate) fn put_class(
+/// An example of a class, or why there is none.
+pub(crate) fn class_value(
     alloc: Global,
-    buffer: &mut Vec<u8>,
     plan: &Plan<'_>,
     statements: &Statements,
     class: Class,
     most: usize,
-) -> io::Result<()> {
-    put_head(buffer, plan)?;
-    write!(buffer, ",\"condition\":{}", class == Class::Met)?;
+) -> Result<Value, AllocError> {
+    let mut members = head(alloc, plan)?;
+    put(
+        alloc,
+        &mut members,
+        "condition",
+        Value::from(class == Class::Met),
+    )?;
     match first_in(plan, class, 0, plan.total()) {
-        Some(choice) => put_choice(alloc, buffer, plan, statements, choice)?,
-        None => put_attempts(alloc, buffer, plan, statements, class, most)?,
+        Some(choice) => put_choice(alloc, &mut members, plan, statements, choice)?,
+        None => put_attempts(alloc, &mut members, plan, statements, class, most)?,
     }
-    buffer.write_all(b"}\n")
+    Ok(Value::Object(members))
 }
 
-/// Puts the first data race, or that there is none.
-pub(crate) fn put_race(
+/// The first data race, or that there is none.
+pub(crate) fn race_value(
     alloc: Global,
-    buffer: &mut Vec<u8>,
     plan: &Plan<'_>,
     statements: &Statements,
-) -> io::Result<()> {
-    put_head(buffer, plan)?;
-    let Some(example) = first_race(plan) else {
-        return buffer.write_all(b",\"data_race\":false}\n");
-    };
-    buffer.write_all(b",\"data_race\":true")?;
-    put_choice(alloc, buffer, plan, statements, example.choice)?;
-    buffer.write_all(b"}\n")
+) -> Result<Value, AllocError> {
+    let mut members = head(alloc, plan)?;
+    let race = first_race(plan);
+    put(
+        alloc,
+        &mut members,
+        "data_race",
+        Value::from(race.is_some()),
+    )?;
+    if let Some(example) = race {
+        put_choice(alloc, &mut members, plan, statements, example.choice)?;
+    }
+    Ok(Value::Object(members))
 }
 
-/// Puts a choice, by its number.
-pub(crate) fn put_named_choice(
+/// A choice, by its number.
+pub(crate) fn choice_value(
     alloc: Global,
-    buffer: &mut Vec<u8>,
     plan: &Plan<'_>,
     statements: &Statements,
     choice: u64,
-) -> io::Result<()>
+) -> Result<Value, AllocError>
     requires { choice < length (choices_of plan.now) }
 {
-    put_head(buffer, plan)?;
-    put_choice(alloc, buffer, plan, statements, choice)?;
-    buffer.write_all(b"}\n")
+    let mut members = head(alloc, plan)?;
+    put_choice(alloc, &mut members, plan, statements, choice)?;
+    Ok(Value::Object(members))
 }
 
-/// Puts that no choice is the one that the words ask for.
-pub(crate) fn put_no_choice(buffer: &mut Vec<u8>, plan: &Plan<'_>) -> io::Result<()> {
-    put_head(buffer, plan)?;
-    buffer.write_all(b",\"choice\":null}\n")
+/// That no choice is the one that the words ask for.
+pub(crate) fn no_choice_value(alloc: Global, plan: &Plan<'_>) -> Result<Value, AllocError> {
+    let mut members = head(alloc, plan)?;
+    put(alloc, &mut members, "choice", Value::Null)?;
+    Ok(Value::Object(members))
 }

@@ -20,6 +20,7 @@ mod json;
 mod question;
 mod races;
 mod reasons;
+mod refusals;
 mod scene;
 mod selection;
 mod statements;

@@ -14,21 +14,32 @@ use lit_why::{
     relations_of,
 };
 use std::alloc::{AllocError, Global};
-use std::io;
 use std::io::Write;
+use std::{fmt, io};
 
-/// Puts the name of an event: of a byte of the block, or of an agent's access.
-pub(crate) fn put_event_name(buffer: &mut Vec<u8>, test: &Test, event: &Event) -> io::Result<()> {
-    match event.owner {
-        Some(agent) if usize::from(agent) < test.agents() => {
-            write!(
-                buffer,
-                "{}.{}",
-                test.agent_name(usize::from(agent)),
-                event.place
-            )
-        }
-        _ => write!(buffer, "init[{}]", event.place),
+/// The name of an event, as it is printed: of a byte of the block, or of an agent's access.
+#[derive(Clone, Copy)]
+pub(crate) struct EventName<'t> {
+    pub test: &'t Test,
+    pub event: &'t Event,
+}
+
+impl fmt::Display for EventName<'_> {
+    ghost use Rattle.std.specs.Prelude.{Some};
+    ghost use Rattle.lit_print.specs.EntryText.{event_name};
+
+    ghost output = { λ name. Some (event_name name.test.now name.event.now) };
+
+    fn fmt<W: fmt::Write>(&self, f: &mut fmt::Formatter<W>) -> fmt::Result {
+        let place = self.event.place;
+        let name = match self.event.owner {
+            None => return write!(f, "init[{place}]"),
+            Some(agent) if usize::from(agent) < self.test.agents() => {
+                self.test.agent_name(usize::from(agent))
+            }
+            Some(_) => "",
+        };
+        write!(f, "{name}.{place}")
     }
 }
 
@@ -185,8 +196,29 @@ impl<'p> Scene<'p> {
     /// Puts the name of an event, by its number.
     pub(crate) fn put_event(&self, buffer: &mut Vec<u8>, event: u8) -> io::Result<()> {
         match self.part.combination().events().get(usize::from(event)) {
-            Some(event) => put_event_name(buffer, self.plan.test(), event),
+            Some(event) => write!(
+                buffer,
+                "{}",
+                EventName {
+                    test: self.plan.test(),
+                    event
+                }
+            ),
             None => Ok(()),
+        }
+    }
+
+    /// The name of an event, by its number.
+    pub(crate) fn name_of(&self, alloc: Global, event: u8) -> Result<String, AllocError> {
+        match self.part.combination().events().get(usize::from(event)) {
+            Some(event) => format!(in alloc;
+                "{}",
+                EventName {
+                    test: self.plan.test(),
+                    event
+                }
+            ),
+            None => Ok(String::new(alloc)),
         }
     }
 

@@ -1,12 +1,11 @@
 //! The choice that words select: by the sources of its reads, and by final values of registers.
 
-use crate::scene::{Scene, put_event_name};
+use crate::scene::{EventName, Scene};
 use crate::statements::Statements;
 use lit_paths::{Combination, Event, Plan};
 use lit_syntax::{REGISTERS, Test};
 use lit_why::Refusal;
-use std::alloc::Global;
-use std::io;
+use std::alloc::{AllocError, Global};
 
 /// Both sides of each word, `EVENT=SOURCE,..` or `AGENT.rN=VALUE`; words are parted by blanks. A word without a `=` has an empty side.
 fn sides(word: &str) -> (&str, &str) {
@@ -44,23 +43,22 @@ fn count_events(words: &str) -> usize {
     count
 }
 
-/// Whether an event has a name, which is written into a buffer to be compared.
-fn is_named(buffer: &mut Vec<u8>, test: &Test, event: &Event, name: &str) -> io::Result<bool> {
-    buffer.clear();
-    put_event_name(buffer, test, event)?;
-    Ok(buffer.as_slice() == name.as_bytes())
+/// Whether an event has a name.
+fn is_named(alloc: Global, test: &Test, event: &Event, name: &str) -> Result<bool, AllocError> {
+    let own = format!(in alloc; "{}", EventName { test, event })?;
+    Ok(own.as_str() == name)
 }
 
 /// The sources that the words give an event, where they are as many as it has bytes.
 fn sources_given<'w>(
-    buffer: &mut Vec<u8>,
+    alloc: Global,
     test: &Test,
     event: &Event,
     words: &'w str,
-) -> io::Result<Option<&'w str>> {
+) -> Result<Option<&'w str>, AllocError> {
     for word in words.split_whitespace() {
         let (name, given) = sides(word);
-        if is_named(buffer, test, event, name)? {
+        if is_named(alloc, test, event, name)? {
             let enough = given.split(",").count() == usize::from(event.size);
             return Ok(if enough { Some(given) } else { None });
         }
@@ -70,14 +68,14 @@ fn sources_given<'w>(
 
 /// The place of an event with a name among candidates.
 fn place_of(
-    buffer: &mut Vec<u8>,
+    alloc: Global,
     combination: &Combination<'_>,
     candidates: &[u8],
     name: &str,
-) -> io::Result<Option<usize>> {
+) -> Result<Option<usize>, AllocError> {
     for (place, candidate) in candidates.iter().enumerate() {
         if let Some(event) = combination.events().get(usize::from(*candidate)) {
-            if is_named(buffer, combination.test(), event, name)? {
+            if is_named(alloc, combination.test(), event, name)? {
                 return Ok(Some(place));
             }
         }
@@ -87,10 +85,10 @@ fn place_of(
 
 /// The choice of a combination whose reads are those that the words name, with these sources.
 fn choice_on(
-    buffer: &mut Vec<u8>,
+    alloc: Global,
     combination: &Combination<'_>,
     words: &str,
-) -> io::Result<Option<u64>> {
+) -> Result<Option<u64>, AllocError> {
     let (events, test) = (combination.events(), combination.test());
     let reads = events.iter().filter(|event| event.kind.does_read()).count();
     if reads != count_events(words) {
@@ -101,12 +99,12 @@ fn choice_on(
         let Some(event) = events.get(usize::from(at.read)) else {
             return Ok(None);
         };
-        let Some(given) = sources_given(buffer, test, event, words)? else {
+        let Some(given) = sources_given(alloc, test, event, words)? else {
             return Ok(None);
         };
         let byte = usize::from(at.byte.saturating_sub(event.first));
         let name = given.split(",").nth(byte).unwrap_or("");
-        let Some(digit) = place_of(buffer, combination, combination.candidates(place), name)? else {
+        let Some(digit) = place_of(alloc, combination, combination.candidates(place), name)? else {
             return Ok(None);
         };
         let ways = (digit as u64).saturating_mul(combination.ways_after(place));
@@ -164,11 +162,10 @@ pub(crate) fn select(
     plan: &Plan<'_>,
     statements: &Statements,
     words: &str,
-) -> io::Result<Option<u64>> {
-    let mut buffer = Vec::new(alloc);
+) -> Result<Option<u64>, AllocError> {
     let mut allowed = None;
     for number in 0..plan.combinations() {
-        let Some(choice) = choice_on(&mut buffer, &plan.enter(number), words)? else {
+        let Some(choice) = choice_on(alloc, &plan.enter(number), words)? else {
             continue;
         };
         if choice >= plan.total() {

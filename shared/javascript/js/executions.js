@@ -70,7 +70,7 @@ class Executions {
   reads(straight, { events }) {
     return events.every(({ name, reads }) => {
       const step = straight.stepOf(name);
-      return !step || reads === undefined || reads === straight.layout.number(step.event, step.got);
+      return !step || reads === null || reads === straight.layout.number(step.event, step.got);
     });
   }
 

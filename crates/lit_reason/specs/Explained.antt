@@ -1,0 +1,52 @@
+-- What an answer to a question, or the lack of one, says of the text (this project's own).
+use Rattle.std.specs.Prelude.{◌≡◌, ◌↔◌, ◌<◌, ◌≤◌, ¬, ℕ, Bool, true, IsTrue, Option, None, List, length}
+use Rattle.lit_syntax.specs.Syntax.{Litmus}
+use Rattle.lit_read.specs.Faults.{IsFirstFault}
+use Rattle.lit_read.specs.Spelling.{Spells}
+use Rattle.lit_paths.specs.Choice.{combinations_of, choices_of}
+use Rattle.lit_paths.specs.declared.limits.TheConstants.{COMBINATION_LIMIT, CHOICE_LIMIT}
+use Rattle.lit_paths.specs.Plan.{HasFewEvents, IsRefusal}
+use Rattle.lit_paths.specs.declared.fault.PlanFault.{PlanFault}
+use Rattle.lit_reason.specs.declared.explanation.Answer.{Answer}
+use Rattle.lit_reason.specs.declared.fault.ReasonFault.{ReasonFault}
+use Rattle.lit_reason.specs.declared.fault.ReasonFault.TheVariants as faults
+use Rattle.lit_reason.specs.declared.question.Asked.{Asked}
+use Rattle.lit_reason.specs.declared.question.Question.{Question}
+use Rattle.lit_reason.specs.declared.question.Question.TheVariants.{InClass, Race, OfChoice, OfSources}
+
+-- whether there is a choice as a question asks for it; of the words for sources nothing is said
+abbrev pub IsFoundOn : Litmus → Question → Bool → Type 0
+IsFoundOn t (InClass class) found = found ≡ true
+IsFoundOn t Race found = found ≡ true
+IsFoundOn t (OfChoice choice) found = IsTrue found ↔ (choice < length (choices_of t))
+IsFoundOn t (OfSources words) found = Unit {0}
+
+-- the test is not refused
+abbrev pub IsWithinLimits : Litmus → Type 0
+IsWithinLimits t = HasFewEvents t × (length (combinations_of t) ≤ COMBINATION_LIMIT) × (length (choices_of t) ≤ CHOICE_LIMIT)
+
+-- The text spells a test. Where no other condition is asked about, it isn't refused, and `found` is true of it.
+pub record HasAnswerOn (text : List ℕ) (asked : Asked) (answer : Answer) : Type 0 where
+  pub test : Litmus
+  pub spelled : Spells text test
+  pub planned : asked.condition ≡ None → IsWithinLimits test
+  pub found : asked.condition ≡ None → IsFoundOn test asked.question answer.found
+
+-- the text spells a test, and without another condition that test is refused so
+pub record IsPlanRefused (text : List ℕ) (asked : Asked) (fault : PlanFault) : Type 0 where
+  pub test : Litmus
+  pub spelled : Spells text test
+  pub refused : asked.condition ≡ None → IsRefusal test fault
+
+-- the text spells a test, and another condition is asked about
+pub record HasOtherCondition (text : List ℕ) (asked : Asked) : Type 0 where
+  pub test : Litmus
+  pub spelled : Spells text test
+  pub other : ¬ (asked.condition ≡ None)
+
+-- what a fault says of the text and of what is asked
+abbrev pub IsFaultOn : List ℕ → Asked → ReasonFault → Type 0
+IsFaultOn text asked (faults.Read fault) = IsFirstFault text fault.kind fault.line
+IsFaultOn text asked (faults.Plan fault) = IsPlanRefused text asked fault
+IsFaultOn text asked faults.Condition = HasOtherCondition text asked
+IsFaultOn text asked faults.OutOfMemory = Unit {0}
