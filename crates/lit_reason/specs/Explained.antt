@@ -1,5 +1,5 @@
 -- What an answer to a question, or the lack of one, says of the text (this project's own).
-use Rattle.std.specs.Prelude.{◌≡◌, ◌↔◌, ◌<◌, ◌≤◌, ¬, ℕ, Bool, true, IsTrue, Option, None, List, length}
+use Rattle.std.specs.Prelude.{◌≡◌, ◌↔◌, ◌<◌, ◌≤◌, ℕ, Bool, true, IsTrue, Option, None, List, length}
 use Rattle.lit_syntax.specs.Syntax.{Litmus}
 use Rattle.lit_read.specs.Faults.{IsFirstFault}
 use Rattle.lit_read.specs.Spelling.{Spells}

@@ -53,7 +53,7 @@ fn subject_of(
     statements: &Statements,
     question: Question<'_>,
 ) -> io::Result<Subject>
-    ensures { IfOk result (IsSubjectOf plan.now question) }
+    ensures { IfOk result (IsSubjectOf plan.now question.entry) }
 {
     Ok(match question {
         Question::InClass(class) => Subject::InClass(class),
