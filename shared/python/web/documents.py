@@ -10,7 +10,8 @@ from web.markdown import rendered
 
 NAMES = {"README.md": "README", "docs/FORMAT.md": "The litmus text", "docs/MODEL.md": "The memory model", "docs/GLOSSARY.md": "Glossary",
          "litmus/README.md": "The tests of the library", "docs/TUTORIAL.md": "Tutorial", "CHANGELOG.md": "Changes",
-         "CONTRIBUTING.md": "Working here", "docs/ARCHITECTURE.md": "Architecture", "docs/DECISIONS.md": "Decisions",
+         "docs/COMMANDS.md": "The commands", "CONTRIBUTING.md": "Working here", "docs/ARCHITECTURE.md": "Architecture",
+         "docs/DECISIONS.md": "Decisions",
          "shared/python/web/README.md": "The page", "shared/javascript/README.md": "Beside engines"}
 PICTURES = {".svg": "image/svg+xml", ".png": "image/png"}
 BEFORE = "/doc/"
