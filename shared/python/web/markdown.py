@@ -2,8 +2,8 @@
 import html
 import json
 import re
+import subprocess
 
-from litmus.processes import output_of
 from litmus.program import TOP
 
 LINK = re.compile(r' (href|src)="([^"]*)"')
@@ -11,8 +11,8 @@ LINK = re.compile(r' (href|src)="([^"]*)"')
 
 def rendered(texts):
     """The HTML of each text. Without node-marked it stands there as it is."""
-    run, said = output_of(["node", TOP / "shared" / "javascript" / "markdown.js"], json.dumps(texts).encode())
-    return [f"<pre>{html.escape(text)}</pre>" for text in texts] if run.status else json.loads(said)
+    run = subprocess.run(["node", TOP / "shared" / "javascript" / "markdown.js"], input=json.dumps(texts), capture_output=True, text=True)
+    return [f"<pre>{html.escape(text)}</pre>" for text in texts] if run.returncode else json.loads(run.stdout)
 
 
 def targets(page):
