@@ -11,7 +11,7 @@ const scenes = require('./executions/scenes.js');
 const { Fault } = require('./lines.js');
 const { notesOfReport } = require('./noting.js');
 const { reportOf, runOf, silent, tellText, tellWhy, withBounds } = require('./programs.js');
-const { more } = require('./text/faults.js');
+const { more, printedOf } = require('./text/faults.js');
 const { codeOf } = require('./text/forms.js');
 const { advice } = require('./text/refusals.js');
 
@@ -56,14 +56,7 @@ async function refused(question, printed, schedule = null) {
     return { refused: said, number: Number(kind), name, line, lines, from, column, said: sentences, write };
   };
   const others = [];
-  const next = more(printed, question.string, told);
-  for (let step = next.next(); !step.done;) {
-    if (typeof step.value === 'string') step = next.next(await question.tell(Buffer.from(step.value, 'latin1')));
-    else {
-      others.push(faultOf(step.value.printed, step.value.advice));
-      step = next.next();
-    }
-  }
+  for await (const other of more(printed, question.string, told, (data) => question.tell(data))) others.push(faultOf(other.printed, other.advice));
   return { kind: 'refusal', ...faultOf(printed, advice(printed, question.string, told, { schedule })), more: others };
 }
 
@@ -128,7 +121,7 @@ async function answerSchedule(question, turns) {
 // The picture of an execution of a text that the program takes, with what it shows in words.
 async function pictured(question, drawingOf) {
   const { test, fault } = await question.tell();
-  if (fault) return refused(question, `refused ${fault.number} ${fault.word}${fault.line === null ? '' : ` line ${fault.line}`}`);
+  if (fault) return refused(question, printedOf(fault));
   const drawing = await drawingOf((words) => question.ask(words), question.string, test);
   return { kind: 'picture', lines: drawing.lines(), ...drawing.laidOut().shapes() };
 }

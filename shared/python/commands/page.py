@@ -20,20 +20,15 @@ Example:
   jslit-page --port 0
 """
 import argparse
-import pathlib
 import re
 import shutil
-import sys
 
-sys.dont_write_bytecode = True
-sys.path.insert(0, str(pathlib.Path(__file__).resolve().parent.parent))
-from litmus import statuses  # noqa: E402
-from litmus.ends import run  # noqa: E402
-from litmus.processes import Stopped  # noqa: E402
-from litmus.program import built, built_text, built_why  # noqa: E402
-from litmus.fault import Fault  # noqa: E402
-from litmus.words import Words  # noqa: E402
-from web.server import Server  # noqa: E402
+from litmus import statuses
+from litmus.processes import Stopped
+from litmus.program import built, built_text, built_why
+from litmus.fault import Fault
+from litmus.words import Words
+from web.server import Server
 
 
 def port_of(text):
@@ -60,7 +55,3 @@ def main(given):
             server.serve_forever()
         except Stopped:
             return statuses.WHOLE
-
-
-if __name__ == "__main__":
-    run("jslit-page", main)
