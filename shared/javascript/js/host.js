@@ -13,7 +13,7 @@ const INSTALL = new vm.Script(`(function (host) {${fs.readFileSync(MEMORY, 'utf8
 // Shared memory in a realm, whose accesses go to `host`.
 const memoryIn = (context, host) => INSTALL.runInContext(context)(host);
 
-// Makes the realm ready for a further run: one that was kept stays as it is.
+// Makes the realm ready for a run, of which the name is given: one that was kept stays as it is.
 const enter = () => undefined;
 
 module.exports = { enter, memoryIn, types, vm };

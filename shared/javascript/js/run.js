@@ -45,7 +45,7 @@ class Room {
 
   begin(run) {
     current = run;
-    enter(this.context);
+    enter(this.context, run.role?.name ?? 'main');
     this.realm.reset();
   }
 }

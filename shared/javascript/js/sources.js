@@ -26,9 +26,13 @@ class Sources {
     return { files: [...this.files], main: this.main, harness: this.harness, name };
   }
 
+  at(at) {
+    return at?.file ? new Places(this.main, this.harness).at(at) : { file: null, line: null };
+  }
+
   // Where something is, as the user knows it.
   place(file, line) {
-    const at = new Places(this.main, this.harness).at({ file, line });
+    const at = this.at({ file, line });
     return at.line === null ? plain(at.file) : `${plain(at.file)}:${at.line}`;
   }
 

@@ -13,6 +13,7 @@ from web.documents import documents
 from web.jobs import KINDS, Busy, Gone, Jobs
 from web.library import library
 from web.limits import CONNECTIONS, LINGERING, REQUEST, RUNS, SENDING
+from web.sandbox import sandbox
 
 FOLDER = pathlib.Path(__file__).resolve().parent / "page"
 TYPES = {".svg": "image/svg+xml", ".html": "text/html; charset=utf-8", ".css": "text/css; charset=utf-8", ".js": "text/javascript; charset=utf-8"}
@@ -37,6 +38,15 @@ def fixed_files():
     files["/"] = files.pop("/index.html")
     files["/library"] = ("application/json", json.dumps(library()).encode())
     return files | documents()
+
+
+def policies(files):
+    """The policies of files that have one of their own. The frame that runs JavaScript is served where its package is installed."""
+    made = sandbox()
+    if made is None:
+        return {}
+    files["/sandbox.html"] = (TYPES[".html"], made[0])
+    return {"/sandbox.html": made[1]}
 
 
 class Timed(io.RawIOBase):
@@ -98,6 +108,7 @@ class Server(http.server.ThreadingHTTPServer):
     def __init__(self, port):
         super().__init__(("127.0.0.1", port), Handler)
         self.files, self.jobs, self.places = fixed_files(), None, Places(CONNECTIONS)
+        self.policies = policies(self.files)
         self.names = {f"{name}:{self.server_port}" for name in ("127.0.0.1", "localhost")}
 
     def answer_by(self, *programs):
@@ -174,11 +185,11 @@ class Handler(http.server.BaseHTTPRequestHandler):
         self.send(code, "application/json", json.dumps({"kind": "failed", "said": SAID[code]}).encode())
         self.drain()
 
-    def send(self, code, kind, body):
+    def send(self, code, kind, body, policy=HEADERS["Content-Security-Policy"]):
         self.close_connection = True
         self.stream.allow(SENDING)
         self.send_response(code)
-        for name, value in {**HEADERS, "Content-Type": kind, "Content-Length": str(len(body)), "Connection": "close"}.items():
+        for name, value in {**HEADERS, "Content-Security-Policy": policy, "Content-Type": kind, "Content-Length": str(len(body)), "Connection": "close"}.items():
             self.send_header(name, value)
         self.end_headers()
         if self.command != "HEAD":
@@ -198,7 +209,7 @@ class Handler(http.server.BaseHTTPRequestHandler):
     def do_GET(self):
         kind, body = self.server.files.get(self.path, (None, None))
         if kind:
-            self.send(200, kind, body)
+            self.send(200, kind, body, self.server.policies.get(self.path, HEADERS["Content-Security-Policy"]))
         else:
             self.send_error(405 if self.asks()[0] in KINDS else 404)
 
