@@ -3,6 +3,7 @@ import contextlib
 import json
 import urllib.parse
 
+from trying import check_javascript
 from trying.browser import Browser
 from trying.check_reasons import asked_why, raced
 from trying.check_saved import documents, saved
@@ -385,5 +386,5 @@ def without_server(page):
 
 
 PROVED = (store_buffering, tearing, sorted_and_filtered, refused, quick, turns, linked, by_keyboard, narrow_and_dark, named_for_all, faults,
-          noted, raced, asked_why, folded, saved, documents)
+          noted, raced, asked_why, folded, saved, documents, *check_javascript.CASES)
 FEIGNED = (long_run, large, without_server)

@@ -170,6 +170,9 @@ function globalsOf(run) {
     __filename: run.role?.file ?? run.program.main, __dirname: '.',
   };
   for (const name of ['setTimeout', 'setInterval', 'setImmediate', 'requestAnimationFrame', 'queueMicrotask']) globals[name] = timer(name);
+  for (const name of ['fetch', 'importScripts', 'XMLHttpRequest', 'WebSocket', 'EventSource']) {
+    globals[name] = function refused() { no(`\`${name}\``, 'put what the agents need of it into this file')(); };
+  }
   const date = no('`Date`', 'put a number in its place');
   globals.Date = Object.assign(function Date() { date(); }, { now: date, parse: date, UTC: date });
   const threads = threadsOf(run, globals);

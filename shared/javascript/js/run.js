@@ -17,6 +17,12 @@ class Ends extends Error {}   // a run ends here, whatever the code would do nex
 const isRead = (op) => op !== 'write';
 const keyOf = ({ block, first, size }) => `${block} ${first} ${size}`;
 
+// Where the innermost code of the user's files stands in a stack, or null; what `Function` made stands in no file.
+function placeIn(stack) {
+  const found = /user:(?!.*<anonymous>)(.*?):(\d+):(\d+)/.exec(stack);
+  return found && { file: found[1], line: Number(found[2]), column: Number(found[3]) };
+}
+
 // What an access that was made writes, or null.
 function writtenBy({ op, value, expected, next, got }) {
   if (!isRead(op) || op === 'exchange') return value;
@@ -80,8 +86,8 @@ class Run {
 
   // Where the code stands.
   line() {
-    const found = /user:(.*?):(\d+):(\d+)/.exec(new Error().stack);
-    return found ? { file: found[1], line: Number(found[2]), column: this.role?.kind === 't262' ? null : Number(found[3]) } : null;
+    const found = placeIn(new Error().stack);
+    return found && { ...found, column: this.role?.kind === 't262' ? null : found.column };
   }
 
   refuse(text, at = this.line()) {
@@ -347,8 +353,8 @@ class Run {
       this.refused = new Refusal(`${this.role ? `the agent ${this.role.name}` : 'main'} runs for five seconds without an end`, null);
       return;
     }
-    const found = /user:(.*?):(\d+)/.exec(String(error?.stack));
-    const at = found ? { file: found[1], line: Number(found[2]) } : null;
+    const found = placeIn(String(error?.stack));
+    const at = found && { file: found.file, line: found.line };
     const text = error !== null && typeof error === 'object' && 'message' in error ? `${error.name}: ${error.message}` : String(error);
     if (/^ReferenceError: \S+ is not defined$/.test(text)) {
       this.refused = new Refusal(`${text.slice(16)} here: put in what the agents need of it`, at);

@@ -32,6 +32,7 @@ function hideOutcomes() {
   byId('saved').textContent = '';
   byId('outcomes').hidden = true;
   byId('example').hidden = true;
+  byId('program-stale').hidden = true;
   hideProgram();
 }
 
@@ -159,6 +160,7 @@ function changed() {
   newText();
   showLanguage(text());
   byId('stale').hidden = !told || text() === asked;
+  byId('program-stale').hidden = text() === asked;
 }
 
 // Takes a text from the library or the address.

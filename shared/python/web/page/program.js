@@ -8,11 +8,18 @@ import { say } from './verdict.js';
 const MAIN = 'program.js';
 const USE = 'harness.js';
 let session = null;
+let turns = 0;     // how often something was run
 let title = '';    // of the lines that are asked for
 
-export function hideProgram() {
+// Ends what runs, and what was told of it can't be asked about any more.
+export function stopProgram() {
+  turns += 1;
   session?.end();
   session = null;
+}
+
+export function hideProgram() {
+  stopProgram();
   byId('program').hidden = true;
 }
 
@@ -29,7 +36,7 @@ function askMore(heading, asked) {
   title = heading;
   showSteps(heading, ['Asking for it.']);
   byId('steps-title').scrollIntoView({ block: 'nearest' });
-  if (session.isOver) showSteps(heading, ['The code is no longer there: run it again.']);
+  if (!session || session.isOver) showSteps(heading, ['The code is no longer there: run it again.']);
   else session.more(asked);
 }
 
@@ -80,7 +87,9 @@ function refused({ text, file, line }) {
 export async function runProgram(text, use, done) {
   hideProgram();
   clearFault();
+  const turn = turns;
   const isThere = await fetch('/sandbox.html', { method: 'HEAD' }).then(({ ok }) => ok, () => null);
+  if (turn !== turns) return;
   if (!isThere) {
     done();
     say('failed', isThere === null ? 'No answer: the server of this page doesn\u2019t answer.'
@@ -100,8 +109,6 @@ export async function runProgram(text, use, done) {
   });
   session = mine;
 }
-
-export const stopProgram = () => session?.end();
 
 byId('ask-outcome').addEventListener('submit', (event) => {
   event.preventDefault();
