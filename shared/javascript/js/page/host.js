@@ -85,6 +85,15 @@ class Script {
   }
 }
 
+// Whether errors tell where code stands, as V8's do.
+function tellsPlaces() {
+  try {
+    return new Script('throw new Error()', { filename: 'user:place.js' }).runInContext();
+  } catch (error) {
+    return /user:place\.js:1:7/.test(error.stack);
+  }
+}
+
 const vm = {
   Script,
   createContext: () => enter(),
@@ -131,4 +140,4 @@ const types = {
   isExternal: () => false,
 };
 
-module.exports = { begin, enter, memoryIn, types, vm };
+module.exports = { begin, enter, memoryIn, tellsPlaces, types, vm };

@@ -6,6 +6,7 @@ const { Answering, Asking } = require('../answering.js');
 const { hangLines, linesOf, namedLines, raceLines, reasonLines } = require('../print.js');
 const { Refusal } = require('../refusal.js');
 const { Sources } = require('../sources.js');
+const { tellsPlaces } = require('./host.js');
 
 const WANTED = { examples: false, why: false, outcome: null };
 
@@ -42,7 +43,8 @@ function begin({ say, listen }) {
     else say({ refusal: { text: sources.refusal({ text: error.message, at: error.at }), ...sources.at(error.at) } });
   };
   listen((given) => {
-    if (given.ask !== undefined) asking.answered(given);
+    if (!tellsPlaces()) say({ failed: 'this browser doesn\'t tell where code stands: take Chromium, or jslit-js' });
+    else if (given.ask !== undefined) asking.answered(given);
     else if (given.files) start(given).catch(refuse);
     else more(answering, given, sources.printer).then((lines) => say({ lines }), refuse);
   });
