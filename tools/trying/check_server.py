@@ -19,10 +19,10 @@ from trying.serving import feigned, litmus, named, same, served
 
 PART = 1000  # outcomes of a report that an answer has
 FILES = ["/", "/base.css", "/page.css", "/document.css", "/page.js", "/ask.js", "/javascript.js", "/library", "/icon.svg",
-         "/doc/README.md", "/doc/docs/FORMAT.md", "/doc/docs/JAVASCRIPT.md", "/doc/docs/sb.svg"]
-ABSENT = ["/index.html", "/../page", "/../../../../etc/passwd", "/%2e%2e/answer.py", "/page.js/../../answer.py", "//etc/passwd", "/page.js?x",
+         "/doc/README.md", "/doc/docs/FORMAT.md", "/doc/docs/JAVASCRIPT.md", "/doc/docs/sb.svg", "/?x=1", "/page.js?x", "/doc/docs/FORMAT.md?x"]
+ABSENT = ["/index.html", "/../page", "/../../../../etc/passwd", "/%2e%2e/answer.py", "/page.js/../../answer.py", "//etc/passwd",
           "http://elsewhere/page.js", "/report/", "/picture/../report", "/README.md", "/doc/", "/doc/docs",
-          "/doc/litmus/sb.lit", "/doc/../bin/jslit", "/doc/docs/FORMAT.md?x"]
+          "/doc/litmus/sb.lit", "/doc/../bin/jslit", "/nothing?x"]
 
 
 def cases(program):

@@ -207,9 +207,10 @@ class Handler(http.server.BaseHTTPRequestHandler):
             pass
 
     def do_GET(self):
-        kind, body = self.server.files.get(self.path, (None, None))
+        path = self.path.partition("?")[0]
+        kind, body = self.server.files.get(path, (None, None))
         if kind:
-            self.send(200, kind, body, self.server.policies.get(self.path, HEADERS["Content-Security-Policy"]))
+            self.send(200, kind, body, self.server.policies.get(path, HEADERS["Content-Security-Policy"]))
         else:
             self.send_error(405 if self.asks()[0] in KINDS else 404)
 

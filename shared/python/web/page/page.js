@@ -69,8 +69,9 @@ const whole = (skip, of) => run('report', { skip }, of);
 
 function show(answer, kind) {
   if (answer.kind === 'refusal') {
-    say('failed', make('strong', {}, answer.refused));
-    if (text() === asked) showRefusal(answer);
+    const isShown = text() === asked;
+    if (isShown) showRefusal(answer);
+    say('failed', make('strong', {}, !isShown ? answer.refused : answer.line ? `The text is refused at line ${answer.line}.` : 'The text is refused.'));
   } else if (answer.kind === 'stopped') {
     sayStopped(answer, kind, () => run('quick'));
   } else if (answer.kind === 'failed') {
