@@ -113,7 +113,11 @@ def store_buffering(page):
     same(page.said("#example-title"), "Outcome 2: A.r0=1 B.r0=0")
     same(page.said("#lines"), "outcome A.r0=1 B.r0=0\n  from A.1 B.0\n  from B.1 init[0]\n  order init[0..1] B.0 B.1 A.0 A.1")
     same(page.value("document.querySelector('#picture [data-name=\"A.1\"]').textContent"), "r0 = Atomics.load(U8, 1)A.1 #5 = 1")
+    same(page.value("document.querySelector('#picture [data-name=\"A.0\"]').textContent"), "Atomics.store(U8, 0, 1)A.0 #4")
     same(page.value("document.querySelectorAll('#picture g.synchronizes rect').length"), 1)
+    same(page.value("document.querySelector('#colours').textContent === document.querySelector('#text').value + '\\n'"), True)
+    same(page.value("[...document.querySelectorAll('#colours .keyword')].map((each) => each.textContent).join(' ')"),
+         "test bytes agent = agent = check == && ==")
     page.picture("sb")
 
 

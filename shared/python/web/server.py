@@ -9,12 +9,14 @@ import time
 import urllib.parse
 
 from litmus import limits
+from litmus.program import TOP
 from web.documents import documents
 from web.jobs import KINDS, Busy, Gone, Jobs
 from web.library import library
 from web.limits import CONNECTIONS, LINGERING, REQUEST, RUNS, SENDING
 from web.sandbox import sandbox
 
+GRAMMAR = TOP / "editors" / "textmate" / "jslit.tmLanguage.json"
 FOLDER = pathlib.Path(__file__).resolve().parent / "page"
 TYPES = {".svg": "image/svg+xml", ".html": "text/html; charset=utf-8", ".css": "text/css; charset=utf-8", ".js": "text/javascript; charset=utf-8"}
 HEADERS = {
@@ -36,6 +38,7 @@ def fixed_files():
     """What a path gets: the type and the bytes."""
     files = {"/" + path.name: (TYPES[path.suffix], path.read_bytes()) for path in FOLDER.iterdir() if path.suffix in TYPES}
     files["/"] = files.pop("/index.html")
+    files["/grammar.json"] = ("application/json", GRAMMAR.read_bytes() if GRAMMAR.is_file() else b'{"patterns": []}')
     files["/library"] = ("application/json", json.dumps(library()).encode())
     return files | documents()
 

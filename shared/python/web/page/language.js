@@ -1,5 +1,6 @@
 // Which language the text of the editor is in: as its form tells, or as is chosen.
 
+import { paint } from './highlight.js';
 import { byId } from './make.js';
 
 const LITMUS = /^[ \t\r]*(?:test[ \t]+\S|bytes[ \t]+\d|agent[ \t]+\w)/im;
@@ -21,4 +22,5 @@ export function showLanguage(text) {
   document.documentElement.dataset.language = language;
   byId('taken').textContent = byId('language').value === '' ? `taken for ${language === 'litmus' ? 'a litmus text' : 'JavaScript'}` : '';
   byId('harness').hidden = language !== 'javascript';
+  paint(text);
 }
