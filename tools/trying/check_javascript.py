@@ -57,6 +57,7 @@ def run(page, code):
 
 
 def printed(page):
+    assert page.value("document.querySelector('#verdict').className") == "is-told", page.said("#verdict") + page.said("#refusal")
     return page.value("document.querySelector('#printed').textContent") + "\n"
 
 

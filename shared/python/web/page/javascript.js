@@ -5,7 +5,7 @@ import { TEXT_LIMIT, ask, bytesOf, stop } from './ask.js';
 import { make } from './make.js';
 
 const SECONDS = 120;      // for an answer
-const SILENT = 6;         // how many seconds the frame may say nothing
+const SILENT = 12;        // how many seconds the frame may say nothing
 const RUN = 5000;         // how many milliseconds a run may take
 const AT_ONCE = 2;        // texts that are asked about
 const TRIES = 60;         // where the server has no room
