@@ -126,9 +126,13 @@ async function pictured(question, drawingOf) {
   return { kind: 'picture', lines: drawing.lines(), ...drawing.laidOut().shapes() };
 }
 
+// Words `READ=SOURCE,..`, each as what is found in it or null.
+const sourcesIn = (sources) =>
+  sources.split(/\s+/).filter(Boolean).map((word) => new RegExp(`^(${EVENT})=(${EVENT}(?:,${EVENT})*)$`).exec(word));
+
 // The picture of an outcome's example, given as the report gives it.
 async function answerPicture(question, sources, outcome) {
-  const words = sources.split(/\s+/).filter(Boolean).map((word) => new RegExp(`^(${EVENT})=(${EVENT}(?:,${EVENT})*)$`).exec(word));
+  const words = sourcesIn(sources);
   const registers = outcome.split(/\s+/).filter(Boolean).map((word) => /^([A-Za-z0-9_]+\.r[0-7])=([0-9]{1,10})$/.exec(word));
   if ([...words, ...registers].includes(null)) throw new Fault('sources or outcome are none');
   const given = new Map(words.map(([, event, from]) => [event, from.split(',')]));
@@ -145,9 +149,28 @@ async function answerWhy(question, outcomes) {
 // The picture of the first execution with a data race.
 const answerRace = (question) => pictured(question, scenes.race);
 
+// What the exploring of JavaScript asks of a text: the values of all outcomes, or the number of a refusal.
+async function answerValues(question) {
+  const { registers, outcomes, other } = await question.report([], { most: Infinity });
+  if (other.refused) return { kind: 'values', refused: Number(other.refused.split(' ')[1]) };
+  return { kind: 'values', registers, outcomes: outcomes.map(({ values }) => values.map(([, value]) => value)), race: other.race === 'yes' };
+}
+
+// The same of an execution, with these sources or any: what jslit-why says.
+async function answerExecution(question, sources) {
+  if (sources !== '' && sourcesIn(sources).includes(null)) throw new Fault('sources are none');
+  try {
+    return { kind: 'execution', why: await question.ask(sources === '' ? [] : ['--from', sources]) };
+  } catch (error) {
+    if (error.status !== 1) throw error;
+    return { kind: 'execution', why: { refused: error.message } };
+  }
+}
+
 // Each kind with what answers it.
 const ANSWERS = {
   report: answerReport, quick: answerQuick, schedule: answerSchedule, text: answerText, picture: answerPicture, why: answerWhy, race: answerRace,
+  values: answerValues, execution: answerExecution,
 };
 
 async function main([text, jslit, why, kind, ...given]) {

@@ -66,7 +66,7 @@ class Drawing {
   // The second line of a box: names, places in the memory-order, and the value read.
   shown(names) {
     const { events, order } = this.execution;
-    const { reads, writes } = events.get(names[0]);
+    const { reads = null, writes = null } = events.get(names[0]);
     const places = order.length ? span(names.map((name) => `#${order.indexOf(name)}`)) : '';
     const failed = writes === null && (this.codes.get(names[0]) ?? '').includes('compareExchange');
     return [span(names), places, reads === null ? '' : `= ${reads}${failed ? ', fails' : ''}`].filter(Boolean).join(' ');

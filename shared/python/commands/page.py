@@ -1,7 +1,8 @@
 """jslit-page [--port N] [--program PROGRAM]
 
 Serves one page on this machine alone, at http://127.0.0.1:8460/ or the port N (0 takes a free one): an editor for litmus
-tests, with what the program, by default jslit, and jslit-why say of them. Each run has ten seconds and 512 MB. It ends at Ctrl-C.
+tests, with what the program, by default jslit, and jslit-why say of them, and for JavaScript, which the browser runs where Debian's
+node-acorn is installed. Each run has ten seconds and 512 MB. It ends at Ctrl-C.
 
 Options:
   --port N           the port, 0 to 65535 [default: 8460]
