@@ -1,5 +1,6 @@
 """The frame in which the page's browser runs JavaScript from the editor, as one file: the frame's script with the text of its worker in it,
-which is shared/javascript/js/page/loader.js with the modules that it loads. Its policy allows this script and such a worker, and no network."""
+which is shared/javascript/js/page/loader.js with the modules that it loads. Its policy allows this script and
+such a worker, and no network."""
 import base64
 import hashlib
 import json
@@ -49,5 +50,6 @@ def sandbox():
     worker = f"((sources) => {{{(FOLDER / JS / 'page/loader.js').read_text()}}})({json.dumps(sources)});"
     script = f"((worker) => {{{(FOLDER / JS / 'page/frame.js').read_text()}}})({text(worker)});"
     digest = base64.b64encode(hashlib.sha256(script.encode()).digest()).decode()
-    policy = f"default-src 'none'; script-src 'sha256-{digest}' 'unsafe-eval'; worker-src blob:; frame-ancestors 'self'; sandbox allow-scripts"
-    return FRAME.format(script=script).encode(), policy
+    policy = ("default-src 'none'", f"script-src 'sha256-{digest}' 'unsafe-eval'", "worker-src blob:", "frame-ancestors 'self'",
+              "sandbox allow-scripts")
+    return FRAME.format(script=script).encode(), "; ".join(policy)

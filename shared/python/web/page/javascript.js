@@ -1,5 +1,5 @@
-// JavaScript from the editor, which this browser runs: a worker in a sandboxed frame explores it, and asks this page about litmus texts. What
-// comes from there may be the code's own words, so it is taken for texts to ask about and for lines to show, and for nothing else.
+// JavaScript from the editor, which this browser runs: a worker in a sandboxed frame explores it, and asks this page about litmus texts.
+// What comes from there may be the code's own words, so it is taken for texts to ask about and for lines to show, and for nothing else.
 
 import { TEXT_LIMIT, ask, bytesOf, stop } from './ask.js';
 import { make } from './make.js';
@@ -64,7 +64,8 @@ export class Session {
     this.last = Date.now();
     this.pulse = setInterval(() => {
       life.port1.postMessage(null);
-      if (Date.now() - this.last > SILENT * 1000) this.end({ stopped: 'the frame with the code is gone: it took more memory than there is' });
+      const isGone = Date.now() - this.last > SILENT * 1000;
+      if (isGone) this.end({ stopped: 'the frame with the code is gone: perhaps it took more memory than there is' });
     }, 1000);
     this.say(given);
   }
@@ -112,7 +113,8 @@ export class Session {
     if (this.isOver || answer === null) return;
     this.texts += 1;
     if (answer.kind === 'values' || answer.kind === 'execution') this.say({ ...answer, ask: number });
-    else this.end(answer.kind === 'stopped' ? { stopped: `the program was stopped on a text at its limit of ${answer.limit}` } : { failed: answer.said });
+    else if (answer.kind === 'stopped') this.end({ stopped: `the program was stopped on a text at its limit of ${answer.limit}` });
+    else this.end({ failed: answer.said });
     this.next();
   }
 

@@ -4,9 +4,10 @@ import { paint } from './highlight.js';
 import { byId } from './make.js';
 
 const LITMUS = /^[ \t\r]*(?:test[ \t]+\S|bytes[ \t]+\d|agent[ \t]+\w)/im;
-const JAVASCRIPT = /\b(?:agents\s*\(|SharedArrayBuffer\b|new\s+Worker\b|function\b|while\s*\()|=>|^\s*(?:const|let|var|class|import|export)\b/m;
+const WORDS = /\b(?:agents\s*\(|SharedArrayBuffer\b|new\s+Worker\b|function\b|while\s*\()|=>/;
+const BEGINNINGS = /^\s*(?:const|let|var|class|import|export)\b/m;
 
-const formOf = (text) => (!LITMUS.test(text) && JAVASCRIPT.test(text) ? 'javascript' : 'litmus');
+const formOf = (text) => (!LITMUS.test(text) && (WORDS.test(text) || BEGINNINGS.test(text)) ? 'javascript' : 'litmus');
 
 export const languageOf = (text) => byId('language').value || formOf(text);
 

@@ -71,7 +71,8 @@ function show(answer, kind) {
   if (answer.kind === 'refusal') {
     const isShown = text() === asked;
     if (isShown) showRefusal(answer);
-    say('failed', make('strong', {}, !isShown ? answer.refused : answer.line ? `The text is refused at line ${answer.line}.` : 'The text is refused.'));
+    const where = answer.line ? ` at line ${answer.line}` : '';
+    say('failed', make('strong', {}, isShown ? `The text is refused${where}.` : answer.refused));
   } else if (answer.kind === 'stopped') {
     sayStopped(answer, kind, () => run('quick'));
   } else if (answer.kind === 'failed') {

@@ -1,4 +1,5 @@
-// What the page shows of JavaScript: outcomes as a table, data races and what nothing ends, each with an execution, and what jslit-js prints.
+// What the page shows of JavaScript: outcomes as a table, data races and what nothing ends, each with an execution, and what jslit-js
+// prints.
 
 import { clearFault, showRefusal } from './editor.js';
 import { Session } from './javascript.js';
@@ -44,8 +45,8 @@ function row({ text, holds, isPerhaps }, place, isAsked) {
   const shown = text || '(nothing is returned or printed)';
   const act = () => askMore(`Outcome ${grouped(place + 1)}: ${shown}`, { example: place });
   const word = `${isAsked ? (holds ? 'holds' : 'FAILS') : ''}${isPerhaps ? ' (perhaps)' : ''}`;
-  const number = make('button', { type: 'button', 'aria-label': `Outcome ${place + 1}: ${shown} ${word}. Show its execution`, onclick: act },
-    grouped(place + 1));
+  const label = `Outcome ${place + 1}: ${shown} ${word}. Show its execution`;
+  const number = make('button', { type: 'button', 'aria-label': label, onclick: act }, grouped(place + 1));
   return make('tr', { class: holds ? null : 'fails' }, make('td', {}, number), make('td', {}, shown), make('td', {}, word));
 }
 
@@ -55,7 +56,8 @@ const shownBy = ([head, ...lines], kind, place) => make('p', { class: kind }, ma
 
 function sayAnswer({ outcomes, verdict, race, races, hangs }) {
   const failing = outcomes.filter(({ holds }) => !holds).length;
-  const check = verdict === null ? 'no check is asked' : `check ${verdict}${verdict === 'always' ? '' : `, fails in ${failing} of ${outcomes.length}`}`;
+  const often = verdict === 'always' ? '' : `, fails in ${failing} of ${outcomes.length}`;
+  const check = verdict === null ? 'no check is asked' : `check ${verdict}${often}`;
   say('told', make('p', {}, make('strong', {}, check)),
     ...(verdict === 'always' ? [make('p', {}, button('Why always?', () => askMore('Why always', { why: true }), 'show-why'))] : []),
     make('p', { id: 'count' }, `${grouped(outcomes.length)} outcome${outcomes.length === 1 ? '' : 's'}`),
@@ -79,7 +81,8 @@ function show(told) {
 function refused({ text, file, line }) {
   const place = file === MAIN ? line : null;
   say('failed', make('strong', {}, place === null ? 'The code is refused.' : `The code is refused at line ${place}.`));
-  showRefusal({ refused: place === null ? text : text.replace(/^[^ ]+: /, ''), line: place, column: null, said: [], write: null, more: [] });
+  const refusal = place === null ? text : text.replace(/^[^ ]+: /, '');
+  showRefusal({ refused: refusal, line: place, column: null, said: [], write: null, more: [] });
   byId('refusal').scrollIntoView({ block: 'nearest' });
 }
 
