@@ -1,4 +1,4 @@
-# How a proved program starts: what bin/jslit and bin/jslit-why share. `name` is the command's and `top` the repository.
+# How a proved program starts: what bin/jslit, bin/jslit-text and bin/jslit-why share. `name` is the command's and `top` the repository.
 #
 # In the repository the program is proved and built first where that is due, by tools/build-program; where it was installed
 # (libexec/, by tools/install) it runs as it is there. Words that ask for no text, such as --help, and words at fault are answered without
@@ -62,4 +62,22 @@ find_program() {
     see_words "$@"
     if [ -n "$answer" ] && ! "$top/tools/build-program" --fresh "$program"; then answer_words; fi
     build
+}
+
+# start CRATE WORDS..: runs the program of this crate with these words. Where the standard error is a terminal and its status one of
+# `explained`, jslit-explain says more there, with the word that stands beside the status.
+start() {
+    local status=0
+    find_program "$@"
+    shift
+    if [ ${#explained[@]} -eq 0 ] || [ ! -t 2 ] || ! command -v node >/dev/null; then
+        exec "$program" "$@"
+        fail "the program can't be run"
+    fi
+    "$program" "$@" || status=$?
+    if [ -n "${explained[$status]+there}" ]; then
+        # shellcheck disable=SC2086
+        "$top/bin/jslit-explain" --program "$program" ${explained[$status]} "$@" || true
+    fi
+    end_with "$status"
 }

@@ -5,13 +5,15 @@
 
 const fs = require('fs');
 const { Failure } = require('./command.js');
-const { DigestMap } = require('./digest_map.js');
 const { plain } = require('./lines.js');
 const { RESULTS, faultOf, lineOf, placeOf, readLine } = require('./record.js');
 
 const TRIED = ['allowed', 'not allowed'];
 const PIECE = 1 << 24;             // bytes of the file that are read at a time, and at most of a line
 const RECENT = 8;                  // places that are compared with before one is looked up
+
+// A digest's first twelve digits tell it from others here: numbers take less memory than texts.
+const keyOf = (digest) => parseInt(digest.slice(0, 12), 16);
 
 class Log {
   // Takes what stands in the file; a last line that has no end, as where the machine stopped, is cut off.
@@ -83,16 +85,16 @@ class Log {
   // Only this is kept of a line: where it begins, its result, and whether the run failed before.
   keep({ result, failed, text, place }, at) {
     const texts = this.textsAt(place);
-    const old = texts.get(text);
+    const old = texts.get(keyOf(text));
     const failedBefore = (old !== undefined && old % 2 === 1) || failed || result === 'failed';
-    texts.set(text, (at * RESULTS.length + RESULTS.indexOf(result)) * 2 + Number(failedBefore));
+    texts.set(keyOf(text), (at * RESULTS.length + RESULTS.indexOf(result)) * 2 + Number(failedBefore));
   }
 
   // The runs of a place. Lines one after the other have few places, and to compare with these is quicker than to look up.
   textsAt(place) {
     let found = this.recent.find((each) => each.place === place);
     if (found === undefined) {
-      if (!this.places.has(place)) this.places.set(Buffer.from(place, 'latin1').latin1Slice(), new DigestMap());
+      if (!this.places.has(place)) this.places.set(Buffer.from(place, 'latin1').latin1Slice(), new Map());
       found = { place: Buffer.from(place, 'latin1').latin1Slice(), texts: this.places.get(place) };
       this.recent = [found, ...this.recent.slice(0, RECENT - 1)];
     }
@@ -102,7 +104,7 @@ class Log {
   // What is known of a run: its record, where it was tried, and whether it failed before.
   found(run) {
     const place = Buffer.from(placeOf(run)).latin1Slice();
-    const kept = this.places.get(place)?.get(run.text);
+    const kept = this.places.get(place)?.get(keyOf(run.text));
     if (kept === undefined) return { failed: false };
     const [failed, rest] = [kept % 2 === 1, Math.floor(kept / 2)];
     if (!TRIED.includes(RESULTS[rest % RESULTS.length])) return { failed };

@@ -7,6 +7,7 @@ const { conditionCode } = require('./code.js');
 const { Fault, plain } = require('./lines.js');
 const { builtProgram, namedProgram, reportOf, silent, tellText, tellWhy } = require('./programs.js');
 const scenes = require('./executions/scenes.js');
+const { printedOf } = require('./text/faults.js');
 
 const USAGE = `jslit-draw [--program PROGRAM] FILE [N | EVENT=SOURCE,.. ..]
 jslit-draw --why [--unmet] FILE
@@ -70,7 +71,7 @@ function refuse(name, said) {
 // What the program says of the text, where neither refuses it.
 async function testOf(name, data) {
   const { test, fault } = await tellText(await builtProgram('jslit-text'), name, data);
-  if (fault) refuse(name, `refused ${fault.number} ${fault.word}${fault.line === null ? '' : ` line ${fault.line}`}`);
+  if (fault) refuse(name, printedOf(fault));
   return test;
 }
 

@@ -111,16 +111,9 @@ async function refusal(said, name, data, schedule, ask) {
   const told = await ask(data);
   explain(said, name, text, advice(said, text, told, { schedule }));
   let count = 1;
-  const next = more(said, text, told);
-  for (let step = next.next(); !step.done;) {
-    if (typeof step.value === 'string') {
-      const other = await ask(Buffer.from(step.value, 'latin1'));
-      step = next.next(other);
-    } else {
-      count += 1;
-      explain(`then ${step.value.printed}`, name, text, step.value.advice);
-      step = next.next();
-    }
+  for await (const other of more(said, text, told, ask)) {
+    count += 1;
+    explain(`then ${other.printed}`, name, text, other.advice);
   }
   if (count === MOST) say(`${plain(name)}: these are the first ${count} faults; there may be more`);
 }

@@ -2,10 +2,11 @@
 // The command jslit-json; README.md describes it.
 
 const fs = require('fs');
+const { Failure, readWords, run } = require('./command.js');
 const { Fault, Writer, plain } = require('./lines.js');
 const { ReportReader, jsonWriter, linesOf, readReport, readReports } = require('./report.js');
 const { readJson, readJsonLines } = require('./json.js');
-const { VERSION } = require('./version.js');
+const { pathOf } = require('./words.js');
 
 const USAGE = `jslit-json [--lines] [FILE ..]
 jslit-json --back [--lines] [FILE ..]
@@ -65,49 +66,28 @@ async function backLines(input, writer) {
   await readJsonLines(input, () => backWriter(writer), () => writer.drain());
 }
 
-// What was asked for, or null where the words are wrong.
-function parsed(given) {
-  const flags = given.filter((word) => word.startsWith('-'));
-  const files = given.filter((word) => !word.startsWith('-'));
-  if (flags.some((flag) => flag !== '--back' && flag !== '--lines')) return null;
-  return { backward: flags.includes('--back'), lines: flags.includes('--lines') || files.length > 1, files };
-}
-
-async function inputs({ backward, lines, files }, writer) {
-  const act = lines ? (backward ? backLines : forwardLines) : (backward ? back : forward);
-  if (files.length === 0) return act(process.stdin, writer);
-  for (const file of files) {
-    try {
-      await act(fs.createReadStream(file), writer, file);
-    } catch (error) {
-      if (error instanceof Fault && /^line [12] of the report/.test(error.message)) {
-        error.message += `; of a text jslit makes one: jslit ${file} | jslit-json`;
-      }
-      if (error instanceof Fault && files.length > 1) error.message = `${file}: ${error.message}`;
-      throw error;
-    }
-  }
-  return undefined;
+// What is told of an input that fails.
+function failureOf(error, file, isOne) {
+  if (error.code !== undefined) return new Failure(4, plain(error.message));
+  if (!(error instanceof Fault)) return new Failure(1, plain(`the JSON isn't that of a report: ${error.message}`));
+  const hint = file && /^line [12] of the report/.test(error.message) ? `; of a text jslit makes one: jslit ${file} | jslit-json` : '';
+  return new Failure(1, plain(`${isOne ? '' : `${file}: `}${error.message}${hint}`));
 }
 
 async function main(given) {
-  if (given[0] === '--help' || given[0] === '-h') return process.stdout.write(USAGE);
-  if (given[0] === '--version') return process.stdout.write(`jslit-json ${VERSION}\n`);
-  const words = parsed(given);
-  if (!words) {
-    process.stderr.write(USAGE);
-    process.exitCode = 2;
-    return undefined;
-  }
+  const words = readWords(given, { back: false, lines: false });
+  if (words.help) return process.stdout.write(USAGE) && 0;
+  const files = words.paths.length ? words.paths : [undefined];
+  const lines = words.lines || files.length > 1;
+  const act = lines ? (words.back ? backLines : forwardLines) : (words.back ? back : forward);
   const writer = new Writer(process.stdout);
-  await inputs(words, writer);
-  return writer.flush();
+  for (const file of files) {
+    await act(file === undefined ? process.stdin : fs.createReadStream(pathOf(file)), writer, file).catch((error) => {
+      throw failureOf(error, file, files.length === 1);
+    });
+  }
+  await writer.flush();
+  return 0;
 }
 
-process.stdout.on('error', () => {});
-main(process.argv.slice(2)).catch((error) => {
-  const known = error instanceof Fault || error.code !== undefined;
-  const text = known ? error.message : `the JSON isn't that of a report: ${error.message}`;
-  if (error.code !== 'EPIPE') process.stderr.write(`jslit-json: ${plain(text)}\n`);
-  process.exitCode = error.code === undefined ? 1 : 4;
-});
+run('jslit-json', USAGE, main);

@@ -11,7 +11,7 @@ const scenes = require('./executions/scenes.js');
 const { Fault } = require('./lines.js');
 const { notesOfReport } = require('./noting.js');
 const { reportOf, runOf, silent, tellText, tellWhy, withBounds } = require('./programs.js');
-const { more } = require('./text/faults.js');
+const { more, printedOf } = require('./text/faults.js');
 const { codeOf } = require('./text/forms.js');
 const { advice } = require('./text/refusals.js');
 
@@ -56,14 +56,7 @@ async function refused(question, printed, schedule = null) {
     return { refused: said, number: Number(kind), name, line, lines, from, column, said: sentences, write };
   };
   const others = [];
-  const next = more(printed, question.string, told);
-  for (let step = next.next(); !step.done;) {
-    if (typeof step.value === 'string') step = next.next(await question.tell(Buffer.from(step.value, 'latin1')));
-    else {
-      others.push(faultOf(step.value.printed, step.value.advice));
-      step = next.next();
-    }
-  }
+  for await (const other of more(printed, question.string, told, (data) => question.tell(data))) others.push(faultOf(other.printed, other.advice));
   return { kind: 'refusal', ...faultOf(printed, advice(printed, question.string, told, { schedule })), more: others };
 }
 
@@ -128,14 +121,18 @@ async function answerSchedule(question, turns) {
 // The picture of an execution of a text that the program takes, with what it shows in words.
 async function pictured(question, drawingOf) {
   const { test, fault } = await question.tell();
-  if (fault) return refused(question, `refused ${fault.number} ${fault.word}${fault.line === null ? '' : ` line ${fault.line}`}`);
+  if (fault) return refused(question, printedOf(fault));
   const drawing = await drawingOf((words) => question.ask(words), question.string, test);
   return { kind: 'picture', lines: drawing.lines(), ...drawing.laidOut().shapes() };
 }
 
+// Words `READ=SOURCE,..`, each as what is found in it or null.
+const sourcesIn = (sources) =>
+  sources.split(/\s+/).filter(Boolean).map((word) => new RegExp(`^(${EVENT})=(${EVENT}(?:,${EVENT})*)$`).exec(word));
+
 // The picture of an outcome's example, given as the report gives it.
 async function answerPicture(question, sources, outcome) {
-  const words = sources.split(/\s+/).filter(Boolean).map((word) => new RegExp(`^(${EVENT})=(${EVENT}(?:,${EVENT})*)$`).exec(word));
+  const words = sourcesIn(sources);
   const registers = outcome.split(/\s+/).filter(Boolean).map((word) => /^([A-Za-z0-9_]+\.r[0-7])=([0-9]{1,10})$/.exec(word));
   if ([...words, ...registers].includes(null)) throw new Fault('sources or outcome are none');
   const given = new Map(words.map(([, event, from]) => [event, from.split(',')]));
@@ -152,9 +149,28 @@ async function answerWhy(question, outcomes) {
 // The picture of the first execution with a data race.
 const answerRace = (question) => pictured(question, scenes.race);
 
+// What the exploring of JavaScript asks of a text: the values of all outcomes, or the number of a refusal.
+async function answerValues(question) {
+  const { registers, outcomes, other } = await question.report([], { most: Infinity });
+  if (other.refused) return { kind: 'values', refused: Number(other.refused.split(' ')[1]) };
+  return { kind: 'values', registers, outcomes: outcomes.map(({ values }) => values.map(([, value]) => value)), race: other.race === 'yes' };
+}
+
+// The same of an execution, with these sources or any: what jslit-why says.
+async function answerExecution(question, sources) {
+  if (sources !== '' && sourcesIn(sources).includes(null)) throw new Fault('sources are none');
+  try {
+    return { kind: 'execution', why: await question.ask(sources === '' ? [] : ['--from', sources]) };
+  } catch (error) {
+    if (error.status !== 1) throw error;
+    return { kind: 'execution', why: { refused: error.message } };
+  }
+}
+
 // Each kind with what answers it.
 const ANSWERS = {
   report: answerReport, quick: answerQuick, schedule: answerSchedule, text: answerText, picture: answerPicture, why: answerWhy, race: answerRace,
+  values: answerValues, execution: answerExecution,
 };
 
 async function main([text, jslit, why, kind, ...given]) {

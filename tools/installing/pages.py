@@ -1,5 +1,8 @@
-"""The man page of a command, made of its --help."""
+"""The man page of a command, made of its --help, with the addresses of shared/published.json."""
+import json
+
 from installing.commands import COMMANDS
+from litmus.program import TOP
 
 
 def escaped(line):
@@ -15,6 +18,8 @@ def page_of(command, version, date):
         lines += [".SH DESCRIPTION" if place == 0 else ".PP", *map(escaped, text.split("\n"))]
     for heading, rows in command.sections:
         lines += [f".SH {heading.upper()}", ".nf", *map(escaped, map(shifted, rows)), ".fi"]
+    addresses = json.loads((TOP / "shared" / "published.json").read_text())
+    lines += [".SH REPORTING FAULTS", escaped(f"To {addresses['faults']}; the repository is {addresses['repository']}.")]
     others = [name for name in COMMANDS if name != command.name]
     lines += [".SH SEE ALSO", ",\n".join(f".BR {escaped(name)} (1)" for name in others).replace(" (1),", " (1),")]
     return "\n".join(lines) + "\n"

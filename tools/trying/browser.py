@@ -22,10 +22,10 @@ class Browser:
         given, answers = (fcntl.fcntl(end, fcntl.F_DUPFD_CLOEXEC, 10) for end in (low, high))
         os.close(low)
         os.close(high)
-        # It reads what it is told at 3, and answers at 4.
+        # It reads what it is told at 3, and answers at 4. As a browser with a screen does, it has a process for each origin.
         command = ["bash", "-c", f"exec \"$@\" 3<&{given} 4>&{answers} {given}<&- {answers}>&-", "bash", name, "--headless", "--no-sandbox",
                    "--remote-debugging-pipe", "--disable-gpu", "--disable-dev-shm-usage", "--no-first-run", "--hide-scrollbars",
-                   "--disable-background-networking", "--disable-component-update", f"--user-data-dir={self.folder.name}", "about:blank"]
+                   "--site-per-process", "--disable-background-networking", "--disable-component-update", f"--user-data-dir={self.folder.name}", "about:blank"]
         self.process = subprocess.Popen(command, pass_fds=(given, answers), stdin=subprocess.DEVNULL, stdout=subprocess.DEVNULL,
                                         stderr=subprocess.DEVNULL, start_new_session=True)
         os.close(given)

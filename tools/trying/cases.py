@@ -1,6 +1,11 @@
 """The cases of a check, run by unittest: each is a function that is given a room of its own, and fails by an assertion or any other error."""
+import signal
+import subprocess
+import sys
 import tempfile
 import unittest
+
+from litmus.program import TOP, built
 
 CASES = []
 
@@ -16,12 +21,11 @@ def within(function, room):
         function(room(folder))
 
 
-def faults_of(room=None):
-    """What is wrong with each case that fails: in the room that `room` makes of a folder, or in none."""
+def faults_of(room):
+    """What is wrong with each case that fails, in the room that `room` makes of a folder."""
     result = unittest.TestResult()
     for each in CASES:
-        act = each if room is None else lambda each=each: within(each, room)
-        unittest.FunctionTestCase(act, description=each.__name__).run(result)
+        unittest.FunctionTestCase(lambda each=each: within(each, room), description=each.__name__).run(result)
     return [f"{test.shortDescription()}: {trace.strip().splitlines()[-1]}" for test, trace in result.failures + result.errors]
 
 
@@ -32,6 +36,23 @@ def told(faults, count):
     return int(bool(faults))
 
 
-def run(room=None):
-    """Runs all cases, and gives the status."""
-    return told(faults_of(room), len(CASES))
+def need(*pairs):
+    subprocess.run([TOP / "tools" / "need", *pairs], check=True)
+
+
+def take_signals():
+    """What a caller ignores, as `nohup` or a shell in the background does, all that is started here would ignore."""
+    for which in (signal.SIGINT, signal.SIGTERM, signal.SIGHUP):
+        signal.signal(which, signal.SIG_DFL)
+
+
+def named_program():
+    """The program that the words of a check name, by default jslit."""
+    return built(next(iter(sys.argv[1:]), None))
+
+
+def run(room):
+    """Runs all cases, each in a room that `room` makes of a folder and the program, and ends with the status."""
+    take_signals()
+    program = named_program()
+    sys.exit(told(faults_of(lambda folder: room(folder, program)), len(CASES)))

@@ -3,6 +3,7 @@ import contextlib
 import json
 import urllib.parse
 
+from trying import check_javascript
 from trying.browser import Browser
 from trying.check_reasons import asked_why, raced
 from trying.check_saved import documents, saved
@@ -110,9 +111,13 @@ def store_buffering(page):
     page.click("tbody tr:nth-child(2)")
     page.until(DRAWN)
     same(page.said("#example-title"), "Outcome 2: A.r0=1 B.r0=0")
-    same(page.said("#lines"), "outcome A.r0=1 B.r0=0\n  from A.1 B.0\n  from B.1 init[0]\n  order init[0] init[1] B.0 B.1 A.0 A.1")
+    same(page.said("#lines"), "outcome A.r0=1 B.r0=0\n  from A.1 B.0\n  from B.1 init[0]\n  order init[0..1] B.0 B.1 A.0 A.1")
     same(page.value("document.querySelector('#picture [data-name=\"A.1\"]').textContent"), "r0 = Atomics.load(U8, 1)A.1 #5 = 1")
+    same(page.value("document.querySelector('#picture [data-name=\"A.0\"]').textContent"), "Atomics.store(U8, 0, 1)A.0 #4")
     same(page.value("document.querySelectorAll('#picture g.synchronizes rect').length"), 1)
+    same(page.value("document.querySelector('#colours').textContent === document.querySelector('#text').value + '\\n'"), True)
+    same(page.value("[...document.querySelectorAll('#colours .keyword')].map((each) => each.textContent).join(' ')"),
+         "test bytes agent = agent = check == && ==")
     page.picture("sb")
 
 
@@ -146,7 +151,7 @@ def refused(page):
     page.take(litmus("sb").replace("r0 = Atomics.load(U8, 0)", "r0 = I8[0];"))
     page.click("#run")
     page.until("document.querySelector('#refusal p')")
-    same(page.said("#verdict"), "refused 3 syntax line 12")
+    same(page.said("#verdict"), "The text is refused at line 12.")
     same(page.said("#numbers").split("\n")[10:13], ["11", "\u25b6 12", "13"])
     assert "Line 12: refused 3 syntax line 12" in page.said("#refusal") and "write: r0 = U8[0]" in page.said("#refusal")
     same(page.value("document.querySelector('#text').getAttribute('aria-invalid')"), "true")
@@ -253,8 +258,9 @@ def narrow_and_dark(page):
     page.click("tbody tr:nth-child(3) button")
     page.until(DRAWN)
     same(page.value(WIDE), False)
-    page.click("#fit")
     same(page.value("document.querySelector('#picture').scrollWidth > document.querySelector('#picture').clientWidth"), False)
+    page.click("#fit")
+    same(page.value("document.querySelector('#picture').scrollWidth > document.querySelector('#picture').clientWidth"), True)
     page.click("#fit")
     page.picture("narrow")
     page.window(1280, 900)
@@ -385,5 +391,5 @@ def without_server(page):
 
 
 PROVED = (store_buffering, tearing, sorted_and_filtered, refused, quick, turns, linked, by_keyboard, narrow_and_dark, named_for_all, faults,
-          noted, raced, asked_why, folded, saved, documents)
+          noted, raced, asked_why, folded, saved, documents, *check_javascript.CASES)
 FEIGNED = (long_run, large, without_server)

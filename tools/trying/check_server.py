@@ -13,15 +13,16 @@ import time
 from litmus.limits import TEXT
 from litmus.program import TOP
 from web.limits import REQUEST, RUNS, SECONDS
+from trying.check_javascript import asked_for_javascript
 from trying.check_reasons import reasons
 from trying.serving import feigned, litmus, named, same, served
 
 PART = 1000  # outcomes of a report that an answer has
-FILES = ["/", "/base.css", "/page.css", "/document.css", "/page.js", "/ask.js", "/library", "/icon.svg",
-         "/doc/README.md", "/doc/docs/FORMAT.md", "/doc/docs/sb.svg"]
-ABSENT = ["/index.html", "/../page", "/../../../../etc/passwd", "/%2e%2e/answer.py", "/page.js/../../answer.py", "//etc/passwd", "/page.js?x",
+FILES = ["/", "/base.css", "/page.css", "/document.css", "/page.js", "/ask.js", "/javascript.js", "/library", "/icon.svg",
+         "/doc/README.md", "/doc/docs/FORMAT.md", "/doc/docs/JAVASCRIPT.md", "/doc/docs/sb.svg", "/?x=1", "/page.js?x", "/doc/docs/FORMAT.md?x"]
+ABSENT = ["/index.html", "/../page", "/../../../../etc/passwd", "/%2e%2e/answer.py", "/page.js/../../answer.py", "//etc/passwd",
           "http://elsewhere/page.js", "/report/", "/picture/../report", "/README.md", "/doc/", "/doc/docs",
-          "/doc/litmus/sb.lit", "/doc/../bin/jslit", "/doc/docs/FORMAT.md?x"]
+          "/doc/litmus/sb.lit", "/doc/../bin/jslit", "/nothing?x"]
 
 
 def cases(program):
@@ -96,7 +97,7 @@ def lengths(server):
 
 def words_of_requests(server):
     for path in ("/report", "/report?skip=0&skip=1", "/report?skip=0&more=1", "/quick?skip=0", "/schedule", "/schedule?turns=A%00",
-                 "/picture?sources=A.0=init[0]", "/why", "/why?outcomes=met&most=1", "/race?x=1", "/text", "/text?examples=with&skip=0"):
+                 "/picture?sources=A.0=init[0]", "/why", "/why?outcomes=met&most=1", "/race?x=1", "/values?x=1", "/execution", "/text", "/text?examples=with&skip=0"):
         same((path, server.ask("POST", path, litmus("sb").encode())[0]), (path, 400))
     for kind, given in (("text", {"examples": "some"}), ("report", {"skip": "--help"}),
                         ("report", {"skip": "9" * 5000}), ("report", {"skip": "-1"}),
@@ -353,6 +354,6 @@ def large_texts(server):
     assert memory_of(server) < 120_000, f"{memory_of(server)} kB"
 
 
-PROVED = (files, other_paths, other_names, lengths, words_of_requests, many_words, every_test, quick_and_turns, refusals,
+PROVED = (files, asked_for_javascript, other_paths, other_names, lengths, words_of_requests, many_words, every_test, quick_and_turns, refusals,
           other_faults, texts, links_of_documents, pictures, reasons)
 FEIGNED = (thirty_at_once, connections, slow_clients, one_who_leaves, a_large_report, a_long_text, a_program_that_fails, large_texts)

@@ -1,14 +1,7 @@
-# What the checks of the commands for engines share: the program, a folder for their files, and a count of what passed. It
-# installs Debian's nodejs where there is no node.
-set -eu
-top=$(cd "$(dirname "${BASH_SOURCE[0]}")/../.." && pwd)
-program=$(realpath "${1:-$top/jslit}")
+# What the checks of the commands for engines share. It installs Debian's nodejs where there is no node.
+. "$(dirname "${BASH_SOURCE[0]}")/begin.sh"
+take_program "${1-}"
 "$top/tools/need" node=nodejs
-"$program" <"$top/litmus/still.lit" >/dev/null || { echo "$program doesn't run" >&2; exit 1; }
-work=$(mktemp -d)
-trap 'rm -rf "$work"' EXIT
-passed=0
-failed=0
 
 # ends NAME STATUS TEXT COMMAND..: whether the command ends with the status, or one of several with `|` between them, and says
 # the text, on either output. The limit ends a command that hangs: one that has much to do may take minutes on a slow machine.
@@ -24,8 +17,8 @@ ends() {
     fi
 }
 
-# count_told: the last line, and whether nothing failed.
-count_told() {
-    echo "$passed passed, $failed failed"
-    [ "$failed" -eq 0 ]
+# feigned NAME TEXT: a program of bash that does this, in $work.
+feigned() {
+    printf '#!/usr/bin/env bash\n%s\n' "$2" >"$work/$1"
+    chmod +x "$work/$1"
 }

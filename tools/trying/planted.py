@@ -41,20 +41,15 @@ ENGINES = {
 }
 
 
-def plant(folder, name, text=None):
-    """Writes an engine into the folder, and gives the command that starts it."""
-    path = folder / name
-    body = ENGINES[name] if text is None else text
-    path.write_text(f"#!/usr/bin/env bash\nif [ \"$1\" = --version ]; then echo '{name} 1.0'; exit; fi\n{body}\n")
-    path.chmod(0o755)
+def plant(room, name, text=None):
+    """Writes an engine into the room, and gives the command that starts it."""
+    room.script(name, f"if [ \"$1\" = --version ]; then echo '{name} 1.0'; exit; fi\n{ENGINES[name] if text is None else text}")
     return f"./{name}"
 
 
-def telling(folder, name, seen, in_step=1, copies=3, version=True):
+def telling(room, name, seen, in_step=1, copies=3, version=True):
     """An engine whose two agents tell this, without running anything."""
     line = json.dumps({"seen": [[seen, 3]], "copies": copies, "inStep": in_step})
-    path = folder / name
     asked = f"echo '{name} 1.0'; exit" if version else "echo '>>>'; exit 1"
-    path.write_text(f"#!/bin/sh\nif [ \"$1\" = --version ]; then {asked}; fi\necho '{line}'\necho '{line}'\n")
-    path.chmod(0o755)
+    room.script(name, f"if [ \"$1\" = --version ]; then {asked}; fi\necho '{line}'\necho '{line}'")
     return f"./{name}"

@@ -96,8 +96,8 @@ class Served:
 @contextlib.contextmanager
 def served(program, refused=0):
     """A server of the page, of whose threads the first so many are refused. It leaves nothing behind."""
-    page = TOP / "shared/python/commands/page.py"
-    start = [sys.executable, "-c", REFUSING, str(refused), page] if refused else [TOP / "bin" / "jslit-page"]
+    page = [TOP / "shared/python", "page"]
+    start = [sys.executable, "-c", REFUSING, str(refused), *page] if refused else [TOP / "bin" / "jslit-page"]
     process = subprocess.Popen([*start, "--port", "0", "--program", program], stdout=subprocess.PIPE, text=True)
     try:
         yield Served(program, process, process.stdout.readline().strip())

@@ -1,7 +1,7 @@
 'use strict';
 // The answer: outcomes by what the agents return and print, and whether the check holds.
 
-const vm = require('vm');
+const { vm } = require('./host.js');
 const { Refusal } = require('./refusal.js');
 const { shown, valueOf } = require('./values.js');
 

@@ -11,8 +11,8 @@ const { compared } = require('./compare.js');
 const { drawn } = require('./draw.js');
 const { compared: seenBeside, tried } = require('./engine.js');
 const { jsonOf } = require('./json.js');
-const { Places } = require('./places.js');
-const { Printer, briefOf, linesOf } = require('./print.js');
+const { briefOf, linesOf } = require('./print.js');
+const { Sources } = require('./sources.js');
 
 const USAGE = `jslit-js [--use HARNESS] [--examples] [--why] [--outcome WORDS] [--before FILE] [--json | --draw | --brief | --run N]
   [--text] [--limit S] [--time S] FILE ..
@@ -58,7 +58,6 @@ const TOP = path.resolve(__dirname, '..', '..', '..');
 const READ = [path.join(TOP, 'shared', 'javascript', '*'), path.join(TOP, 'shared', 'limits.json'), '/usr/share/nodejs/*', '/usr/lib/nodejs/*'];
 const MEMORY = 512;        // MB of the code's heap
 const SILENCE = 2000;      // milliseconds before there is a sign of life
-const CODE = 56;           // characters of a line of code that are shown
 
 // The words of Node by which a process may read what it needs, and nothing else: since Node 20.
 function rightsOf(version) {
@@ -83,51 +82,16 @@ function secondsOf(words, name) {
   return seconds;
 }
 
-// The files by their names without folders, since workers are named so; the harness stands behind the first, from line `harness.from` on.
-class Sources {
-  constructor(paths, use) {
-    if (paths.length === 0) throw new Failure(2, 'a file is needed, and none given');
-    this.files = new Map();
-    for (const file of paths) {
-      const name = path.basename(file);
-      if (this.files.has(name)) throw new Failure(2, `two files have the name ${plain(name)}`);
-      this.files.set(name, read(file));
-    }
-    [this.main] = this.files.keys();
-    this.harness = null;
-    if (use !== null) {
-      const before = this.files.get(this.main).replace(/\n?$/, '\n');
-      this.harness = { name: path.basename(use), from: before.split('\n').length };
-      this.files.set(this.main, before + read(use));
-    }
+// The files by their names without folders, since workers are named so.
+function sourcesOf(paths, use) {
+  if (paths.length === 0) throw new Failure(2, 'a file is needed, and none given');
+  const files = new Map();
+  for (const file of paths) {
+    const name = path.basename(file);
+    if (files.has(name)) throw new Failure(2, `two files have the name ${plain(name)}`);
+    files.set(name, read(file));
   }
-
-  // Where something is, as the user knows it.
-  place(file, line) {
-    const at = new Places(this.main, this.harness).at({ file, line });
-    return at.line === null ? plain(at.file) : `${plain(at.file)}:${at.line}`;
-  }
-
-  // The code of a step, or else of its line.
-  code({ code, file, line }) {
-    const text = plain(code ?? this.line(file, line).trim().replace(/\s+/g, ' '));
-    return text.length > CODE ? `${text.slice(0, CODE - 2)}..` : text;
-  }
-
-  // A line by the user's places.
-  line(file, line) {
-    const isHarness = this.harness !== null && file === this.harness.name;
-    return this.files.get(isHarness ? this.main : file)?.split('\n')[line - 1 + (isHarness ? this.harness.from - 1 : 0)] ?? '';
-  }
-
-  get printer() {
-    return new Printer({ main: this.main, place: (file, line) => `${plain(file)}:${line}`, code: (step) => this.code(step) });
-  }
-
-  // The same of places within a text.
-  placed(text) {
-    return text.replaceAll(/([^\s:,]+):(\d+)/g, (all, file, line) => (this.files.has(file) ? this.place(file, Number(line)) : all));
-  }
+  return new Sources(files, use === null ? null : { name: path.basename(use), text: read(use) });
 }
 
 // Lets the child go on with its code until it has told an answer or a refusal, or has ended otherwise.
@@ -138,9 +102,8 @@ async function carriedOut(sources, asked, time, wanted) {
   const { child, ended } = start(process.execPath,
     [...rights ?? [], '--no-warnings', `--max-old-space-size=${MEMORY}`, '--stack-size=900', CHILD], ['pipe', 'pipe', 'pipe']);
   child.stdin.on('error', () => {});
-  const name = sources.main.replace(/\.\w+$/, '').replace(/\W/g, '_').replace(/^(?=\d)/, '_').slice(0, 32) || '_';
   const tell = (told) => child.stdin.write(`${JSON.stringify(told)}\n`);
-  tell({ files: [...sources.files], main: sources.main, harness: sources.harness, name, wanted });
+  tell({ ...sources.given, wanted });
   let said = '';
   child.stderr.on('data', (piece) => { if (said.length < 1e5) said += piece; });
   let last = null;
@@ -199,8 +162,7 @@ async function main(given) {
 // The answer on some files, as the user knows their places.
 async function answerOn(sources, asked, time, wanted) {
   const { answer, refusal } = await carriedOut(sources, asked, time, { examples: false, why: false, outcome: null, ...wanted });
-  if (refusal) throw new Failure(refusal.status,
-    `${refusal.at?.file ? `${sources.place(refusal.at.file, refusal.at.line)}: ` : ''}${plain(sources.placed(refusal.text))}`);
+  if (refusal) throw new Failure(refusal.status, sources.refusal(refusal));
   answer.notes = answer.notes.map((note) => sources.placed(note));
   return answer;
 }
@@ -208,7 +170,7 @@ async function answerOn(sources, asked, time, wanted) {
 const print = (lines) => process.stdout.write(`${lines.map(plain).join('\n')}\n`);
 
 async function whole(words, answered) {
-  const sources = new Sources(words.paths, words.use);
+  const sources = sourcesOf(words.paths, words.use);
   const { why, outcome } = words;
   const answer = await answered(sources, { examples: words.examples || words.json || words.draw, why, outcome });
   if (words.draw) return draw(answer, sources);
@@ -241,8 +203,8 @@ function draw(answer, sources) {
 
 // Whether the outcomes of the files are those of the file before.
 async function change(words, answered) {
-  const sources = new Sources(words.paths, words.use);
-  const before = await answered(new Sources([words.before], words.use), {});
+  const sources = sourcesOf(words.paths, words.use);
+  const before = await answered(sourcesOf([words.before], words.use), {});
   const after = await answered(sources, { examples: true });
   const { isAllowed, lines } = compared(before, after, sources.printer);
   print(lines);

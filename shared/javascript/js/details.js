@@ -1,7 +1,7 @@
 'use strict';
 // Beside the outcomes: an example of each, the data races and what nothing ends with theirs, and why an outcome can't be.
 
-const vm = require('vm');
+const { vm } = require('./host.js');
 const { Check, dataIn, told } = require('./answer.js');
 const { Executions } = require('./executions.js');
 const { Refusal } = require('./refusal.js');

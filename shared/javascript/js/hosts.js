@@ -2,8 +2,6 @@
 // What a host gives to a program: agents, workers as Node and browsers have them, test262's agents, console, assert; and what isn't
 // followed, each with what to write instead.
 
-const path = require('path');
-
 const NAME = 28;   // characters of an agent's name, so that a number fits behind it
 
 function nameOf(run, wanted) {
@@ -51,7 +49,7 @@ function workerOf(run) {
   return class Worker {
     constructor(file, options = {}) {
       if (options.eval) run.refuse('a worker from a text isn\'t followed: give its file as a further FILE');
-      const base = path.basename(String(file?.href ?? file).replace(/[?#].*$/, ''));
+      const base = String(file?.href ?? file).replace(/[?#].*$/, '').replace(/\/+$/, '').split('/').pop();
       const data = run.data(options.workerData);
       this.started = start(run,
         { name: nameOf(run, base.replace(/\.\w+$/, '')), kind: 'file', file: base, data, messages: [], handlers: [], at: run.line() });
@@ -172,6 +170,9 @@ function globalsOf(run) {
     __filename: run.role?.file ?? run.program.main, __dirname: '.',
   };
   for (const name of ['setTimeout', 'setInterval', 'setImmediate', 'requestAnimationFrame', 'queueMicrotask']) globals[name] = timer(name);
+  for (const name of ['fetch', 'importScripts', 'XMLHttpRequest', 'WebSocket', 'EventSource']) {
+    globals[name] = function refused() { no(`\`${name}\``, 'put what the agents need of it into this file')(); };
+  }
   const date = no('`Date`', 'put a number in its place');
   globals.Date = Object.assign(function Date() { date(); }, { now: date, parse: date, UTC: date });
   const threads = threadsOf(run, globals);

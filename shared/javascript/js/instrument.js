@@ -16,7 +16,7 @@ const KNOWN = new Set((`undefined NaN Infinity globalThis self Object Function A
   Int32Array Uint32Array Float32Array Float64Array BigInt64Array BigUint64Array WebAssembly Worker postMessage onmessage
   addEventListener require module exports __filename __dirname console assert agents $262 performance Date setTimeout
   setInterval setImmediate requestAnimationFrame process arguments crypto structuredClone close queueMicrotask URL eval
-  print`).split(/\s+/));
+  print fetch importScripts XMLHttpRequest WebSocket EventSource`).split(/\s+/));
 
 const REFUSED = {
   AwaitExpression: '`await` isn\'t followed: write what comes after it as a function of its own, an agent or a part of one',

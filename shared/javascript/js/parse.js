@@ -1,14 +1,13 @@
 'use strict';
 // A file as a syntax tree, by acorn: Debian's package is node-acorn.
 
-const path = require('path');
 const { Refusal } = require('./refusal.js');
 
 const FOLDERS = ['/usr/share/nodejs', '/usr/lib/nodejs'];   // where Debian has packages
 
 // A package, as Node finds it, or where Debian puts it.
 function load(name, file) {
-  for (const place of [name, ...FOLDERS.map((folder) => path.join(folder, name, 'dist', file))]) {
+  for (const place of [name, ...FOLDERS.map((folder) => `${folder}/${name}/dist/${file}`)]) {
     try {
       return require(place);
     } catch (error) {

@@ -141,4 +141,4 @@ function linesOf({ outcomes, verdict, examples, races, hangs, why, named, notes,
   return lines;
 }
 
-module.exports = { Printer, briefOf, linesOf, outcomeLine };
+module.exports = { Printer, briefOf, hangLines, linesOf, namedLines, outcomeLine, raceLines, reasonLines };

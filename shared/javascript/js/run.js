@@ -2,10 +2,7 @@
 // One run of the main file, or of an agent, access by access: reads get the values that it is given, and where these come to an end
 // it pauses at the next read.
 
-const fs = require('fs');
-const path = require('path');
-const util = require('util');
-const vm = require('vm');
+const { enter, memoryIn, types, vm } = require('./host.js');
 const { globalsOf } = require('./hosts.js');
 const { Refusal, busiest } = require('./refusal.js');
 const { States } = require('./state.js');
@@ -13,14 +10,18 @@ const { NoData, blocksIn, dataOf, shown, valueOf } = require('./values.js');
 
 const PATIENCE = 5000;   // milliseconds that a run may take
 const MOST = 24;         // accesses of a run, as the program has it of all agents together
-const MEMORY = path.join(__dirname, 'memory.js');
-const INSTALL = new vm.Script(`(function (host) {${fs.readFileSync(MEMORY, 'utf8')}\nreturn memory;})`, { filename: 'memory.js' });
 Error.stackTraceLimit = 60;
 
 class Ends extends Error {}   // a run ends here, whatever the code would do next
 
 const isRead = (op) => op !== 'write';
 const keyOf = ({ block, first, size }) => `${block} ${first} ${size}`;
+
+// Where the innermost code of the user's files stands in a stack, or null; what `Function` made stands in no file.
+function placeIn(stack) {
+  const found = /user:(?!.*<anonymous>)(.*?):(\d+):(\d+)/.exec(stack);
+  return found && { file: found[1], line: Number(found[2]), column: Number(found[3]) };
+}
 
 // What an access that was made writes, or null.
 function writtenBy({ op, value, expected, next, got }) {
@@ -29,25 +30,28 @@ function writtenBy({ op, value, expected, next, got }) {
   return op === 'modify' ? next(got) : null;
 }
 
-// A realm with shared memory in it, whose accesses go to the run that has it.
+let current = null;   // the run that is on: one at a time
+const HOST = {
+  access: (access) => current.access(access),
+  isLive: () => current.isLive,
+  refuse: (text) => current.refuse(text),
+  choose: (count) => current.choose(count),
+  sleep: (at) => current.sleep({ ...at, block: current.blockName(at.block) }),
+  notify: (at, count) => current.notify({ ...at, block: current.blockName(at.block) }, count),
+};
+
+// A realm with shared memory in it, whose accesses go to the run that is on.
 class Room {
   constructor() {
     this.context = vm.createContext();
     this.global = vm.runInContext('globalThis', this.context);
-    this.run = null;
     this.isKept = false;   // whether the code is run in a function, so that another run may follow
-    this.realm = INSTALL.runInContext(this.context)({
-      access: (access) => this.run.access(access),
-      isLive: () => this.run.isLive,
-      refuse: (text) => this.run.refuse(text),
-      choose: (count) => this.run.choose(count),
-      sleep: (at) => this.run.sleep({ ...at, block: this.run.blockName(at.block) }),
-      notify: (at, count) => this.run.notify({ ...at, block: this.run.blockName(at.block) }, count),
-    });
+    this.realm = memoryIn(this.context, HOST);
   }
 
   begin(run) {
-    this.run = run;
+    current = run;
+    enter(this.context, run.role?.name ?? 'main');
     this.realm.reset();
   }
 }
@@ -82,8 +86,8 @@ class Run {
 
   // Where the code stands.
   line() {
-    const found = /user:(.*?):(\d+):(\d+)/.exec(new Error().stack);
-    return found ? { file: found[1], line: Number(found[2]), column: this.role?.kind === 't262' ? null : Number(found[3]) } : null;
+    const found = placeIn(new Error().stack);
+    return found && { ...found, column: this.role?.kind === 't262' ? null : found.column };
   }
 
   refuse(text, at = this.line()) {
@@ -271,7 +275,7 @@ class Run {
   closing(object, closed) {
     for (const each of Object.values(Object.getOwnPropertyDescriptors(object))) {
       for (const made of [each.value, each.get, each.set]) {
-        if (typeof made === 'function' && !util.types.isProxy(made) && !this.states.closures.has(made)) this.states.closures.set(made,
+        if (typeof made === 'function' && !types.isProxy(made) && !this.states.closures.has(made)) this.states.closures.set(made,
           closed);
       }
     }
@@ -332,8 +336,8 @@ class Run {
 
   shown(value) {
     if (typeof value === 'string') return JSON.stringify(value);
-    const isPlain = value === null || (typeof value !== 'object' && typeof value !== 'function');
-    return isPlain ? util.inspect(value) : shown(this.plain(value, 'where it is printed: print its elements, as plain data'));
+    if (typeof value === 'symbol') return String(value);
+    return shown(this.plain(value, 'where it is printed: print its elements, as plain data'));
   }
 
   caught(error) {
@@ -349,8 +353,8 @@ class Run {
       this.refused = new Refusal(`${this.role ? `the agent ${this.role.name}` : 'main'} runs for five seconds without an end`, null);
       return;
     }
-    const found = /user:(.*?):(\d+)/.exec(String(error?.stack));
-    const at = found ? { file: found[1], line: Number(found[2]) } : null;
+    const found = placeIn(String(error?.stack));
+    const at = found && { file: found.file, line: found.line };
     const text = error !== null && typeof error === 'object' && 'message' in error ? `${error.name}: ${error.message}` : String(error);
     if (/^ReferenceError: \S+ is not defined$/.test(text)) {
       this.refused = new Refusal(`${text.slice(16)} here: put in what the agents need of it`, at);

@@ -2,9 +2,10 @@
 // What a turn of a loop leaves behind: the state that its code can reach, as a text. Two states with one text are the same: the same
 // objects with the same contents. What can't be looked into (an iterator, a promise, a proxy) is like nothing else.
 
-const { types } = require('util');
+const { types } = require('./host.js');
 
 const MOST = 20000;   // values that are looked at
+const { getTime } = Date.prototype;
 
 const GLOBALS = `Object Function Array String Number Boolean Symbol Math JSON Map Set WeakMap WeakSet WeakRef Error TypeError RangeError
   SyntaxError ReferenceError EvalError URIError AggregateError Promise Proxy Reflect BigInt RegExp Atomics
@@ -115,7 +116,7 @@ class Looking {
     this.value(above);
     if (types.isMap(object)) for (const [key, value] of Map.prototype.entries.call(object)) this.value(key), this.value(value);
     if (types.isSet(object)) for (const value of Set.prototype.values.call(object)) this.value(value);
-    if (types.isDate(object)) this.words.push(String(Date.prototype.getTime.call(object)));
+    if (types.isDate(object)) this.words.push(String(getTime.call(object)));
     if (types.isAnyArrayBuffer(object)) this.bytes(object);
     if (ArrayBuffer.isView(object)) this.value(object.buffer);
     else for (const name of Reflect.ownKeys(object)) if (!isOfCalls(object, name)) this.property(object, name);
@@ -126,7 +127,7 @@ class Looking {
   bytes(block) {
     if (types.isSharedArrayBuffer(block)) return;
     if (block.byteLength > MOST) throw new Opaque();
-    this.words.push(Buffer.from(block).toString('hex'));
+    this.words.push(new Uint8Array(block).join());
   }
 
   function(made) {

@@ -2,7 +2,7 @@
 // What each agent does, by what it reads: a node is {event, kids} of a read, with a kid for each value that is known; {event, next}
 // of a write; or {leaf}, what the agent's end is.
 
-const vm = require('vm');
+const { vm } = require('./host.js');
 const { instrument } = require('./instrument.js');
 const { Refusal } = require('./refusal.js');
 const { REGISTERS } = require('./limits.js');

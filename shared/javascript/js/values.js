@@ -1,7 +1,7 @@
 'use strict';
 // Values as plain data, so that they go from one realm to another and are shown.
 
-const { types } = require('util');
+const { types } = require('./host.js');
 
 const DEEPEST = 20;
 

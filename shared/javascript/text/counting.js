@@ -2,7 +2,7 @@
 // What makes a test too large: its accesses, its paths and its choices, counted from the test as the program tells it.
 
 const { limits } = require('../limits.js');
-const { inits, isIf, walks } = require('./tests.js');
+const { decides, inits, isIf, walks } = require('./tests.js');
 
 const product = (numbers) => numbers.reduce((all, each) => all * each, 1n);
 
@@ -12,13 +12,13 @@ const accesses = (statements) => statements.reduce((sum, each) => (
 
 const paths = (statements) => product(statements.map((each) => {
   if (isIf(each)) return paths(each.body) + paths(each.other);
-  return each.kind === 'compareExchange' ? 2n : 1n;
+  return decides(each) ? 2n : 1n;
 }));
 
 // The lines with a decision.
 const decisions = (statements) => statements.flatMap((each) => {
   if (isIf(each)) return [each.line, ...decisions(each.body), ...decisions(each.other)];
-  return each.kind === 'compareExchange' ? [each.line] : [];
+  return decides(each) ? [each.line] : [];
 });
 
 const linesOf = (numbers) => `line${numbers.length > 1 ? 's' : ''} ${numbers.join(', ')}`;

@@ -53,11 +53,12 @@ function standIn(kind, line) {
   return /^(?:if|while|for)\b.*\{$/.test(code) ? 'if r0 == 0 {' : '';
 }
 
-const lineOf = ({ fault }) => (fault && `refused ${fault.number} ${fault.word}${fault.line === null ? '' : ` line ${fault.line}`}`);
+// What the program prints of a fault that jslit-text tells.
+const printedOf = (fault) => `refused ${fault.number} ${fault.word}${fault.line === null ? '' : ` line ${fault.line}`}`;
 
 // The faults after the first, of which the program printed `printed`: {printed, advice}, with the numbers of lines as the text was given.
-// It also gives texts, each a string, and has to be given what jslit-text says of it.
-function* more(printed, text, told) {
+// `ask` gives what jslit-text says of a text.
+async function* more(printed, text, told, ask) {
   const mended = new Mended(text);
   const seen = new Set();
   let own = true;
@@ -81,9 +82,9 @@ function* more(printed, text, told) {
     own = own && given.write !== null;
     seen.add(key);
     mended.put(given.write === null ? number : given.from, given.lines, instead);
-    const other = yield mended.text();
-    said = { printed: lineOf(other), told: other };
+    const other = await ask(Buffer.from(mended.text(), 'latin1'));
+    said = { printed: other.fault && printedOf(other.fault), told: other };
   }
 }
 
-module.exports = { MOST, more };
+module.exports = { MOST, more, printedOf };

@@ -10,6 +10,9 @@ const branchesOf = (statements) => statements.flatMap((each) => (
 // Each register that an agent writes, as [agent's number, register]: agents in order, registers by number.
 const registersOf = (test) => test.agents.flatMap(({ registers }, agent) => registers.map((register) => [agent, register]));
 
+// Whether an access may write or not, by what it reads.
+const decides = ({ values }) => values.length === 2;
+
 // An access as an event: `writes` is null where it writes nothing, `register` where it reads nothing. Of a compareExchange that which succeeds.
 function eventOf(access) {
   const { line, register, atomic, view, bits, place, values } = access;
@@ -17,7 +20,7 @@ function eventOf(access) {
   const first = view === 'DV' ? place : place * size;
   return {
     line, register, atomic, first, size, access, bytes: Array.from({ length: size }, (_, byte) => first + byte),
-    writes: values.length ? values[values.length - 1] : null, expected: values.length === 2 ? values[0] : null, isView: view === 'DV',
+    writes: values.length ? values[values.length - 1] : null, expected: decides(access) ? values[0] : null, isView: view === 'DV',
   };
 }
 
@@ -38,7 +41,7 @@ function walks(statements) {
       return [true, false].flatMap((holds) => walks(holds ? head.body : head.other).map((walk) => [{ branch: head, holds }, ...walk]));
     }
     const event = eventOf(head);
-    return event.expected === null ? [[{ event }]] : [[{ event }], [{ event: { ...event, writes: null } }]];
+    return !decides(head) ? [[{ event }]] : [[{ event }], [{ event: { ...event, writes: null } }]];
   };
   return waysOf().flatMap((way) => after.map((walk) => [...way, ...walk]));
 }
@@ -47,4 +50,4 @@ function walks(statements) {
 const comparisonsOf = (condition) => (condition.not ? comparisonsOf(condition.not)
   : (condition.all ?? condition.any)?.flatMap(comparisonsOf) ?? [condition]);
 
-module.exports = { accessesOf, branchesOf, comparisonsOf, eventOf, eventsOf, inits, isIf, registersOf, walks };
+module.exports = { accessesOf, branchesOf, comparisonsOf, decides, eventsOf, inits, isIf, registersOf, walks };

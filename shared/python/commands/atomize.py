@@ -33,17 +33,13 @@ Exit status:
 Example:
   jslit-atomize litmus/mpplain.lit
 """
-import pathlib
-import sys
 
-sys.dont_write_bytecode = True
-sys.path.insert(0, str(pathlib.Path(__file__).resolve().parent.parent))
-from litmus.accesses import Accesses  # noqa: E402
-from litmus.answers import Clock, Late, Program  # noqa: E402
-from litmus.ends import given_text, run  # noqa: E402
-from litmus.guards import Question, Search, given_up  # noqa: E402
-from litmus.program import built  # noqa: E402
-from litmus.words import Words  # noqa: E402
+from litmus.accesses import Accesses
+from litmus.answers import Clock, Late, Program
+from litmus.ends import given_text
+from litmus.guards import Question, Search, given_up
+from litmus.program import built
+from litmus.words import Words
 
 
 def parsed(given):
@@ -126,7 +122,3 @@ def main(given):
         print(f"// {line}")
     print(f"// Runs: {program.runs}.")
     return 0 if sets else 1
-
-
-if __name__ == "__main__":
-    run("jslit-atomize", main)

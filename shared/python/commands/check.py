@@ -39,16 +39,12 @@ Exit status:
 Example:
   jslit-check --json generated/ >results.jsonl
 """
-import pathlib
 import sys
 
-sys.dont_write_bytecode = True
-sys.path.insert(0, str(pathlib.Path(__file__).resolve().parent.parent))
-from litmus.ends import run  # noqa: E402
-from litmus.hosted import Junit, annotation  # noqa: E402
-from litmus.program import TOP, built, built_why  # noqa: E402
-from litmus.runs import FIELDS, Runs, files_in, printed_name  # noqa: E402
-from litmus.words import Words  # noqa: E402
+from litmus.hosted import Junit, annotation
+from litmus.program import TOP, built, built_why
+from litmus.runs import FIELDS, Runs, files_in, printed_name
+from litmus.words import Words
 
 
 def parsed(given):
@@ -105,7 +101,3 @@ def main(given):
         last += f", {counts['seen']} without a line // expect"
     print(last, file=sys.stderr if words.tsv or words.json else sys.stdout)
     return int(counts["failed"] > 0)
-
-
-if __name__ == "__main__":
-    run("jslit-check", main)

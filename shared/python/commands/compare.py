@@ -33,19 +33,15 @@ Example:
 """
 import collections
 import os
-import pathlib
-import sys
 
-sys.dont_write_bytecode = True
-sys.path.insert(0, str(pathlib.Path(__file__).resolve().parent.parent))
-from litmus import statuses  # noqa: E402
-from litmus.answers import Clock, Program  # noqa: E402
-from litmus.comparison import Comparison, lines_of, outcomes_of  # noqa: E402
-from litmus.ends import given_text, run, shown  # noqa: E402
-from litmus.program import TOP, built  # noqa: E402
-from litmus.runs import files_in, printed_name  # noqa: E402
-from litmus.fault import Fault  # noqa: E402
-from litmus.words import Words  # noqa: E402
+from litmus import statuses
+from litmus.answers import Clock, Program
+from litmus.comparison import Comparison, lines_of, outcomes_of
+from litmus.ends import given_text, shown
+from litmus.program import TOP, built
+from litmus.runs import files_in, printed_name
+from litmus.fault import Fault
+from litmus.words import Words
 
 ALLOWED, NOT_ALLOWED, DIFFER, REST = "allowed", "not allowed", "differ", "rest"
 BEFORE, AFTER = ".before.lit", ".after.lit"
@@ -127,7 +123,3 @@ def main(given):
     found, lines = compared(built(words.program), words.limit, texts)
     print(*lines, sep="\n")
     return statuses.WHOLE if found == ALLOWED else statuses.NO
-
-
-if __name__ == "__main__":
-    run("jslit-compare", main)

@@ -44,22 +44,19 @@ import collections
 import concurrent.futures
 import os
 import pathlib
-import sys
 
-sys.dont_write_bytecode = True
-sys.path.insert(0, str(pathlib.Path(__file__).resolve().parent.parent))
-from cycles.cycle import cycle_of  # noqa: E402
-from cycles.edges import word_of  # noqa: E402
-from cycles.families import ONE_PLACE, family, has_one_place, name_of, normal  # noqa: E402
-from cycles.vocabulary import EVERY, cycles, edges_of, kinds_of  # noqa: E402
-from cycles.writing import Writer  # noqa: E402
-from litmus import statuses  # noqa: E402
-from litmus.answers import Clock, Late, Program  # noqa: E402
-from litmus.ends import run, shown  # noqa: E402
-from litmus.program import built  # noqa: E402
-from litmus.runs import spoken  # noqa: E402
-from litmus.fault import Fault  # noqa: E402
-from litmus.words import Words  # noqa: E402
+from cycles.cycle import cycle_of
+from cycles.edges import word_of
+from cycles.families import ONE_PLACE, family, has_one_place, name_of, normal
+from cycles.vocabulary import EVERY, cycles, edges_of, kinds_of
+from cycles.writing import Writer
+from litmus import statuses
+from litmus.answers import Clock, Late, Program
+from litmus.ends import shown
+from litmus.program import built
+from litmus.runs import spoken
+from litmus.fault import Fault
+from litmus.words import Words
 
 Told = collections.namedtuple("Told", "cycle name text answer")
 
@@ -160,7 +157,3 @@ def main(given):
     if not alone:
         print_counts(tests)
     return statuses.WHOLE if len(tests) == len(wanted) else statuses.LITTLE
-
-
-if __name__ == "__main__":
-    run("jslit-diy", main)

@@ -1,7 +1,8 @@
 """jslit-page [--port N] [--program PROGRAM]
 
 Serves one page on this machine alone, at http://127.0.0.1:8460/ or the port N (0 takes a free one): an editor for litmus
-tests, with what the program, by default jslit, and jslit-why say of them. Each run has ten seconds and 512 MB. It ends at Ctrl-C.
+tests, with what the program, by default jslit, and jslit-why say of them, and for JavaScript, which the browser runs where Debian's
+node-acorn is installed. Each run has ten seconds and 512 MB. It ends at Ctrl-C.
 
 Options:
   --port N           the port, 0 to 65535 [default: 8460]
@@ -20,20 +21,15 @@ Example:
   jslit-page --port 0
 """
 import argparse
-import pathlib
 import re
 import shutil
-import sys
 
-sys.dont_write_bytecode = True
-sys.path.insert(0, str(pathlib.Path(__file__).resolve().parent.parent))
-from litmus import statuses  # noqa: E402
-from litmus.ends import run  # noqa: E402
-from litmus.processes import Stopped  # noqa: E402
-from litmus.program import built, built_text, built_why  # noqa: E402
-from litmus.fault import Fault  # noqa: E402
-from litmus.words import Words  # noqa: E402
-from web.server import Server  # noqa: E402
+from litmus import statuses
+from litmus.processes import Stopped
+from litmus.program import built, built_text, built_why
+from litmus.fault import Fault
+from litmus.words import Words
+from web.server import Server
 
 
 def port_of(text):
@@ -60,7 +56,3 @@ def main(given):
             server.serve_forever()
         except Stopped:
             return statuses.WHOLE
-
-
-if __name__ == "__main__":
-    run("jslit-page", main)

@@ -26,15 +26,14 @@ def line_of(access, atomic):
 
 
 class Accesses:
-    """Accesses by the number of their line: `free` may go through Atomics or not, `views` are DataView calls, which can't, and
-    `fixed` exchanges, which do in any case. Each in the order of the text."""
+    """Accesses by the number of their line, in the order of the text: `free` may go through Atomics or not, `views` are DataView calls,
+    which can't. An exchange does in any case."""
 
     def __init__(self, name, data):
         self.lines = data.decode("latin-1").split("\n")
         found = {access.number: access for _, body in test_of(name, data).agents for access in flat(body)}
         self.free = {number: found[number] for number in sorted(found) if typed(found[number])}
         self.views = [number for number in sorted(found) if not found[number].whole]
-        self.fixed = [number for number in sorted(found) if found[number].whole and number not in self.free]
 
     def text_with(self, atomic):
         """The text where of the free accesses those on these lines, and no others, go through Atomics."""

@@ -10,7 +10,7 @@ from litmus.processes import RUNNING
 from litmus.fault import Fault
 
 TOP = pathlib.Path(__file__).resolve().parent.parent.parent.parent
-JSLIT, WHY = TOP / "bin" / "jslit", TOP / "bin" / "jslit-why"
+JSLIT = TOP / "bin" / "jslit"
 # Of each program the crate that it is built from.
 CRATES = {"jslit": "jslit_cli", "jslit-text": "jslit_text", "jslit-why": "jslit_why"}
 

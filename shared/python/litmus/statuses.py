@@ -1,4 +1,4 @@
-"""What the statuses of all commands mean: docs/FORMAT.md has the table."""
+"""What the statuses of all commands mean: docs/COMMANDS.md has the table."""
 WHOLE = 0  # the answer is yes, or whole
 NO = 1  # the answer is no, or a text is refused
 WORDS = 2  # the words are wrong

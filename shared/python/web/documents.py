@@ -6,12 +6,14 @@ import posixpath
 import re
 
 from litmus.program import TOP
-from web.markdown import rendered
+from web.markdown import linked, rendered
 
-NAMES = {"README.md": "README", "docs/FORMAT.md": "The litmus text", "docs/MODEL.md": "The memory model", "docs/GLOSSARY.md": "Glossary",
-         "litmus/README.md": "The tests of the library", "docs/TUTORIAL.md": "Tutorial", "CHANGELOG.md": "Changes",
-         "CONTRIBUTING.md": "Working here", "docs/ARCHITECTURE.md": "Architecture", "docs/DECISIONS.md": "Decisions",
+NAMES = {"README.md": "README", "docs/TUTORIAL.md": "Tutorial", "docs/FORMAT.md": "The litmus text", "docs/JAVASCRIPT.md": "JavaScript",
+         "docs/MODEL.md": "The memory model", "docs/GLOSSARY.md": "Glossary", "litmus/README.md": "The tests of the library",
+         "CHANGELOG.md": "Changes", "docs/COMMANDS.md": "The commands", "CONTRIBUTING.md": "Working here",
+         "docs/ARCHITECTURE.md": "Architecture", "docs/DECISIONS.md": "Decisions",
          "shared/python/web/README.md": "The page", "shared/javascript/README.md": "Beside engines"}
+IN_EACH = 7  # of these are linked from each document
 PICTURES = {".svg": "image/svg+xml", ".png": "image/png"}
 BEFORE = "/doc/"
 FRAME = """<!doctype html>
@@ -60,11 +62,12 @@ def documents():
     """What a path gets: the type and the bytes."""
     there = {name: title for name, title in NAMES.items() if (TOP / name).is_file()}
     files = {}
-    for name, title in there.items():
+    pages = rendered([(TOP / name).read_text() for name in there])
+    for (name, title), page in zip(there.items(), pages):
         others = " ".join(f'<a href="{BEFORE}{other}"{" aria-current=page" if other == name else ""}>{html.escape(words)}</a>'
-                          for other, words in list(there.items())[:5])
-        body = rendered((TOP / name).read_text(), linker(name))
-        files[BEFORE + name] = ("text/html; charset=utf-8", FRAME.format(title=html.escape(title), others=others, body=body).encode())
+                          for other, words in list(there.items())[:IN_EACH])
+        body = FRAME.format(title=html.escape(title), others=others, body=linked(page, linker(name)))
+        files[BEFORE + name] = ("text/html; charset=utf-8", body.encode())
     for path in sorted((TOP / "docs").glob("*")):
         if path.suffix in PICTURES:
             files[f"{BEFORE}docs/{path.name}"] = (PICTURES[path.suffix], path.read_bytes())

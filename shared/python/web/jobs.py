@@ -11,7 +11,8 @@ from web.limits import ANSWER, HEAP, PATIENCE, RUNS, SECONDS, late
 
 ANSWERER = pathlib.Path(__file__).resolve().parent.parent.parent / "javascript" / "page_answer.js"
 # What may be asked for, with the names of its values: as ANSWERS there.
-KINDS = {"report": ("skip",), "quick": (), "schedule": ("turns",), "text": ("examples",), "picture": ("sources", "outcome"), "why": ("outcomes",), "race": ()}
+KINDS = {"report": ("skip",), "quick": (), "schedule": ("turns",), "text": ("examples",), "picture": ("sources", "outcome"), "why": ("outcomes",),
+         "race": (), "values": (), "execution": ("sources",)}
 PIECE = 65536
 
 

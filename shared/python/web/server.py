@@ -9,11 +9,14 @@ import time
 import urllib.parse
 
 from litmus import limits
+from litmus.program import TOP
 from web.documents import documents
 from web.jobs import KINDS, Busy, Gone, Jobs
 from web.library import library
 from web.limits import CONNECTIONS, LINGERING, REQUEST, RUNS, SENDING
+from web.sandbox import sandbox
 
+GRAMMAR = TOP / "editors" / "textmate" / "jslit.tmLanguage.json"
 FOLDER = pathlib.Path(__file__).resolve().parent / "page"
 TYPES = {".svg": "image/svg+xml", ".html": "text/html; charset=utf-8", ".css": "text/css; charset=utf-8", ".js": "text/javascript; charset=utf-8"}
 HEADERS = {
@@ -35,8 +38,18 @@ def fixed_files():
     """What a path gets: the type and the bytes."""
     files = {"/" + path.name: (TYPES[path.suffix], path.read_bytes()) for path in FOLDER.iterdir() if path.suffix in TYPES}
     files["/"] = files.pop("/index.html")
+    files["/grammar.json"] = ("application/json", GRAMMAR.read_bytes() if GRAMMAR.is_file() else b'{"patterns": []}')
     files["/library"] = ("application/json", json.dumps(library()).encode())
     return files | documents()
+
+
+def policies(files):
+    """The policies of files that have one of their own. The frame that runs JavaScript is served where its package is installed."""
+    made = sandbox()
+    if made is None:
+        return {}
+    files["/sandbox.html"] = (TYPES[".html"], made[0])
+    return {"/sandbox.html": made[1]}
 
 
 class Timed(io.RawIOBase):
@@ -98,6 +111,7 @@ class Server(http.server.ThreadingHTTPServer):
     def __init__(self, port):
         super().__init__(("127.0.0.1", port), Handler)
         self.files, self.jobs, self.places = fixed_files(), None, Places(CONNECTIONS)
+        self.policies = policies(self.files)
         self.names = {f"{name}:{self.server_port}" for name in ("127.0.0.1", "localhost")}
 
     def answer_by(self, *programs):
@@ -174,11 +188,11 @@ class Handler(http.server.BaseHTTPRequestHandler):
         self.send(code, "application/json", json.dumps({"kind": "failed", "said": SAID[code]}).encode())
         self.drain()
 
-    def send(self, code, kind, body):
+    def send(self, code, kind, body, policy=HEADERS["Content-Security-Policy"]):
         self.close_connection = True
         self.stream.allow(SENDING)
         self.send_response(code)
-        for name, value in {**HEADERS, "Content-Type": kind, "Content-Length": str(len(body)), "Connection": "close"}.items():
+        for name, value in {**HEADERS, "Content-Security-Policy": policy, "Content-Type": kind, "Content-Length": str(len(body)), "Connection": "close"}.items():
             self.send_header(name, value)
         self.end_headers()
         if self.command != "HEAD":
@@ -196,9 +210,10 @@ class Handler(http.server.BaseHTTPRequestHandler):
             pass
 
     def do_GET(self):
-        kind, body = self.server.files.get(self.path, (None, None))
+        path = self.path.partition("?")[0]
+        kind, body = self.server.files.get(path, (None, None))
         if kind:
-            self.send(200, kind, body)
+            self.send(200, kind, body, self.server.policies.get(path, HEADERS["Content-Security-Policy"]))
         else:
             self.send_error(405 if self.asks()[0] in KINDS else 404)
 

@@ -23,6 +23,8 @@ const REFUSED = [
   ['the clock', agents('b[0] = performance.now();'), 2, '`performance.now` isn\'t followed'],
   ['random numbers', agents('b[0] = Math.random() * 2;'), 2, 'random numbers aren\'t followed'],
   ['random bytes', agents('crypto.getRandomValues(b);'), 2, '`crypto` isn\'t followed'],
+  ['the network', agents('fetch("/");'), 2, '`fetch` isn\'t followed'],
+  ['the network in a function of a text', agents('(() => 0).constructor("return fetch(\'/\')")();'), 2, '`fetch` isn\'t followed'],
   ['eval', agents('eval("b[0] = 1");'), 2, '`eval` isn\'t followed: write its text in its place'],
   ['waitAsync', agents('Atomics.waitAsync(i, 0, 0);'), 2, '`Atomics.waitAsync` isn\'t followed: write what is done'],
   ['atomics of 64 bits', agents('Atomics.add(new BigInt64Array(sab), 0, 1n);'), 2,

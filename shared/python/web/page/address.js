@@ -2,21 +2,32 @@
 
 import { bytesOf } from './ask.js';
 
-const BEGINNING = '#t=';
+// A litmus text stands behind `#t=`, JavaScript behind `#js=`, and its harness behind `&use=`.
+const FORM = /^#(t|js)=([^&]*)(?:&use=([^&]*))?$/;
 
-export function addressOf(text) {
+function packed(text) {
   const signs = Array.from(bytesOf(text), (byte) => String.fromCharCode(byte)).join('');
-  return BEGINNING + btoa(signs).replaceAll('+', '-').replaceAll('/', '_').replaceAll('=', '');
+  return btoa(signs).replaceAll('+', '-').replaceAll('/', '_').replaceAll('=', '');
 }
 
-// The text that the address has, or null; '' and an address that can't be read are told apart by `broken`.
+function unpacked(words) {
+  const signs = atob(words.replaceAll('-', '+').replaceAll('_', '/'));
+  return new TextDecoder('utf-8', { fatal: true }).decode(Uint8Array.from(signs, (sign) => sign.charCodeAt(0)));
+}
+
+export function addressOf(text, language = 'litmus', use = '') {
+  if (language === 'litmus') return `#t=${packed(text)}`;
+  return `#js=${packed(text)}${use === '' ? '' : `&use=${packed(use)}`}`;
+}
+
+// The text that the address has, or null, with its language and harness; '' and an address that can't be read are told apart by `broken`.
 export function textOf(address) {
-  if (!address.startsWith(BEGINNING)) return { text: null, broken: false };
+  const none = { text: null, use: '', language: null, broken: false };
+  if (!/^#(?:t|js)=/.test(address)) return none;
   try {
-    const signs = atob(address.slice(BEGINNING.length).replaceAll('-', '+').replaceAll('_', '/'));
-    const bytes = Uint8Array.from(signs, (sign) => sign.charCodeAt(0));
-    return { text: new TextDecoder('utf-8', { fatal: true }).decode(bytes), broken: false };
+    const [, kind, text, use = ''] = FORM.exec(address);
+    return { text: unpacked(text), use: unpacked(use), language: kind === 'js' ? 'javascript' : 'litmus', broken: false };
   } catch {
-    return { text: null, broken: true };
+    return { ...none, broken: true };
   }
 }

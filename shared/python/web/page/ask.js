@@ -20,7 +20,7 @@ export async function ask(name, kind, words, text) {
     const query = Object.entries(words).map((pair) => pair.map(encodeURIComponent).join('='));
     const answer = await fetch(`/${kind}${query.length ? '?' : ''}${query.join('&')}`,
       { method: 'POST', body: bytesOf(text), signal: control.signal });
-    return await answer.json();
+    return { ...await answer.json(), ...(answer.status === 503 ? { busy: true } : {}) };
   } catch (error) {
     return control.signal.aborted ? null : { kind: 'failed', said: 'the server of this page doesn\u2019t answer' };
   } finally {

@@ -1,5 +1,6 @@
 // The editor: line numbers beside the text, and the line at fault.
 
+import { paint } from './highlight.js';
 import { byId, make, sentence } from './make.js';
 
 const area = byId('text');
@@ -25,12 +26,14 @@ function number() {
   const lines = area.value.split('\n').map((_, place) => `${place + 1}\n`);
   numbers.replaceChildren(...(faulty.size === 0 ? [lines.join('')]
     : lines.map((line, at) => (faulty.has(at + 1) ? make('b', {}, `\u25b6 ${line}`) : line))));
+  paint(area.value);
   place();
 }
 
 // Puts the marks where the text stands that they mark, as it is scrolled.
 function place() {
   numbers.scrollTop = area.scrollTop;
+  byId('colours').style.transform = `translate(${-area.scrollLeft}px, ${-area.scrollTop}px)`;
   const [mark, caret] = [byId('fault'), byId('caret')];
   mark.hidden = !fault;
   caret.hidden = !fault || fault.column === null;

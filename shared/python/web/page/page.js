@@ -3,8 +3,10 @@
 import { TEXT_LIMIT, ask, bytesOf, library, stop } from './ask.js';
 import { addressOf, textOf } from './address.js';
 import { clearFault, goTo, onChange, setText, showRefusal, text } from './editor.js';
+import { choose, languageOf, showLanguage } from './language.js';
 import { byId, grouped, make, sentence } from './make.js';
 import { showPicture } from './picture.js';
+import { hideProgram, runProgram, stopProgram } from './program.js';
 import { savePng, saveSvg, saveText } from './save.js';
 import { setOutcomes, spoken } from './table.js';
 import { newText } from './turns.js';
@@ -30,17 +32,30 @@ function hideOutcomes() {
   byId('saved').textContent = '';
   byId('outcomes').hidden = true;
   byId('example').hidden = true;
+  byId('program-stale').hidden = true;
+  hideProgram();
+}
+
+// Runs JavaScript in this browser.
+function runCode() {
+  asked = text();
+  hideOutcomes();
+  if (isTooLong(bytesOf(asked).length + bytesOf(byId('use').value).length)) return;
+  say('running', 'Running it in a frame of its own: two minutes at most.');
+  running(true);
+  runProgram(asked, byId('use').value, () => running(false));
+}
+
+function isTooLong(length) {
+  if (length > TEXT_LIMIT) say('failed', `The text has ${grouped(length)} bytes, and ${grouped(TEXT_LIMIT)} at most.`);
+  return length > TEXT_LIMIT;
 }
 
 async function run(kind, words = {}, of = text()) {
   asked = of;
   clearFault();
   hideOutcomes();
-  const length = bytesOf(asked).length;
-  if (length > TEXT_LIMIT) {
-    say('failed', `The text has ${grouped(length)} bytes, and ${grouped(TEXT_LIMIT)} at most.`);
-    return;
-  }
+  if (isTooLong(bytesOf(asked).length)) return;
   say('running', 'Running: ten seconds at most.');
   running(true);
   const answer = await ask('run', kind, words, asked);
@@ -54,8 +69,10 @@ const whole = (skip, of) => run('report', { skip }, of);
 
 function show(answer, kind) {
   if (answer.kind === 'refusal') {
-    say('failed', make('strong', {}, answer.refused));
-    if (text() === asked) showRefusal(answer);
+    const isShown = text() === asked;
+    if (isShown) showRefusal(answer);
+    const where = answer.line ? ` at line ${answer.line}` : '';
+    say('failed', make('strong', {}, isShown ? `The text is refused${where}.` : answer.refused));
   } else if (answer.kind === 'stopped') {
     sayStopped(answer, kind, () => run('quick'));
   } else if (answer.kind === 'failed') {
@@ -143,22 +160,27 @@ function showRace() {
 
 function changed() {
   newText();
+  showLanguage(text());
   byId('stale').hidden = !told || text() === asked;
+  byId('program-stale').hidden = text() === asked;
 }
 
 // Takes a text from the library or the address.
-function take(value) {
+function take(value, language = null, use = '') {
   stop('run');
   running(false);
   setText(value);
+  byId('use').value = use;
+  byId('harness').open = use !== '';
+  choose(language, value);
   hideOutcomes();
   newText();
   say('nothing', 'Nothing has been run yet.');
 }
 
 function takeAddress(otherwise) {
-  const { text: given, broken } = textOf(location.hash);
-  take(given ?? otherwise);
+  const { text: given, use, language, broken } = textOf(location.hash);
+  take(given ?? otherwise, language, use);
   if (broken) say('failed', 'The address holds no text that can be read.');
 }
 
@@ -189,7 +211,7 @@ let waiting = 0;
 // Keeps the text in the address, so that Back brings it back.
 function keep() {
   clearTimeout(waiting);
-  history.replaceState(null, '', addressOf(text()));
+  history.replaceState(null, '', addressOf(text(), languageOf(text()), byId('use').value));
 }
 
 const nameIn = (value) => /^[ \t\r]*test[ \t\r]+(\w+)/m.exec(value)?.[1];
@@ -203,14 +225,25 @@ function leaveLibrary() {
   byId('why').hidden = true;
 }
 
+function keepSoon() {
+  clearTimeout(waiting);
+  waiting = setTimeout(keep, 300);
+}
+
+const start = () => (languageOf(text()) === 'javascript' ? runCode() : whole(0));
+
 onChange(() => {
   changed();
   leaveLibrary();
-  clearTimeout(waiting);
-  waiting = setTimeout(keep, 300);
+  keepSoon();
+});
+byId('use').addEventListener('input', keepSoon);
+byId('language').addEventListener('change', () => {
+  showLanguage(text());
+  keepSoon();
 });
 byId('met').addEventListener('rendered', (event) => sayShown(event.detail));
-byId('run').addEventListener('click', () => whole(0));
+byId('run').addEventListener('click', start);
 byId('save-all').addEventListener('click', () => saveReport('with'));
 byId('save-outcomes').addEventListener('click', () => saveReport('without'));
 byId('save-svg').addEventListener('click', () => saveSvg(`${drawn}.svg`));
@@ -220,6 +253,7 @@ byId('before').addEventListener('click', () => whole(Math.max(told.skip - 1000, 
 byId('after').addEventListener('click', () => whole(told.skip + told.outcomes.length, asked));
 byId('stop').addEventListener('click', () => {
   stop('run');
+  stopProgram();
   running(false);
   say('stopped', 'Stopped, as you asked.');
   byId('run').focus();
@@ -227,7 +261,7 @@ byId('stop').addEventListener('click', () => {
 document.addEventListener('keydown', (event) => {
   if (event.key === 'Enter' && (event.ctrlKey || event.metaKey)) {
     event.preventDefault();
-    whole(0);
+    start();
   }
 });
 window.addEventListener('hashchange', () => takeAddress(text()));

@@ -51,9 +51,23 @@ export function sayStopped(told, kind, quick) {
   say('stopped', ...said);
 }
 
-// The lines of an outcome as the report has them.
+// An order in which first zeros that stand in a row are one word.
+function folded(order) {
+  const words = [];
+  let run = null;
+  for (const name of order) {
+    const byte = Number(/^init\[(\d+)\]$/.exec(name)?.[1] ?? NaN);
+    if (run !== null && byte === run.last + 1) run.last = byte;
+    else words.push(run = Number.isNaN(byte) ? null : { first: byte, last: byte });
+    if (run === null) words[words.length - 1] = name;
+  }
+  return words.map((word) => (typeof word === 'string' ? word
+    : word.first === word.last ? `init[${word.first}]` : `init[${word.first}..${word.last}]`));
+}
+
+// The lines of an outcome as the report has them, with the order folded.
 export function linesOf(outcome) {
   const values = outcome.values.map(([name, value]) => ` ${name}=${value}`).join('');
   return [`${outcome.group ? `${outcome.group} ` : ''}outcome${values}`,
-    ...outcome.from.map(([event, sources]) => `  from ${event} ${sources.join(' ')}`), `  order ${outcome.order.join(' ')}`].join('\n');
+    ...outcome.from.map(([event, sources]) => `  from ${event} ${sources.join(' ')}`), `  order ${folded(outcome.order).join(' ')}`].join('\n');
 }

@@ -7,9 +7,10 @@ import shutil
 import signal
 import subprocess
 import threading
-import time
 
-TOP = pathlib.Path(__file__).resolve().parent.parent.parent
+from litmus.program import TOP
+from trying.processes import marked, wait_for
+
 SOURCES = {
     "crates/low/src/lib.rt": "low\n", "crates/low/src/out/inner.rt": "inner\n", "crates/low/specs/Lib.antt": "spec\n",
     "crates/low/proofs/a name/Answers.antt": "proof\n", "crates/middle/src/lib.rt": "middle\n",
@@ -165,27 +166,6 @@ class Start:
         return f"status {self.status}, printed {self.printed!r} for {self.repository.wanted()!r}, said {self.said[-300:]!r}"
 
 
-def marked(mark):
-    """The processes that have this mark in their environment, or in their words."""
-    found = []
-    for path in pathlib.Path("/proc").glob("[0-9]*"):
-        try:
-            if mark.encode() in (path / "environ").read_bytes() + (path / "cmdline").read_bytes() and int(path.name) != os.getpid():
-                found.append(int(path.name))
-        except OSError:
-            pass
-    return found
-
-
-def wait_for(what):
-    """Whether it comes to hold, in ten seconds."""
-    for _ in range(500):
-        if what():
-            return True
-        time.sleep(0.02)
-    return False
-
-
 class Check:
     def __init__(self, work, scripts):
         self.work, self.scripts, self.tally, self.count = pathlib.Path(work) / "with blanks", scripts, Tally(), 0
@@ -196,7 +176,7 @@ class Check:
             self.command(self.tools / name, text)
         # What is preloaded can't have blanks in its name.
         self.forks = pathlib.Path(work) / "forks.so"
-        subprocess.run([os.environ.get("CC", "cc"), "-shared", "-fPIC", "-o", self.forks, "-x", "c", TOP / "tools/refusing/forks.c.in"], check=True)
+        subprocess.run([os.environ.get("CC", "cc"), "-shared", "-fPIC", "-o", self.forks, "-x", "c", TOP / "tools/trying/forks.c.in"], check=True)
         self.built = Repository(self.work / "built", scripts)
         self.first = self.start(self.built).end()
 
