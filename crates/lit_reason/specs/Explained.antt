@@ -1,5 +1,5 @@
 -- What an answer to a question, or the lack of one, says of the text (this project's own).
-use Rattle.std.specs.Prelude.{◌≡◌, ◌↔◌, ◌<◌, ◌≤◌, ℕ, Bool, true, IsTrue, Option, None, List, length}
+use Rattle.std.specs.Prelude.{◌≡◌, ◌≤◌, Bool, true, Option, None, ℕ, List, nat_lt, length}
 use Rattle.lit_syntax.specs.Syntax.{Litmus}
 use Rattle.lit_read.specs.Faults.{IsFirstFault}
 use Rattle.lit_read.specs.Spelling.{Spells}
@@ -18,7 +18,7 @@ use Rattle.lit_reason.specs.declared.question.Question.TheVariants.{InClass, Rac
 abbrev pub IsFoundOn : Litmus → Question → Bool → Type 0
 IsFoundOn t (InClass class) found = found ≡ true
 IsFoundOn t Race found = found ≡ true
-IsFoundOn t (OfChoice choice) found = IsTrue found ↔ (choice < length (choices_of t))
+IsFoundOn t (OfChoice choice) found = found ≡ nat_lt choice (length (choices_of t))
 IsFoundOn t (OfSources words) found = Unit {0}
 
 -- the test is not refused

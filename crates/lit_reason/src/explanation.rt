@@ -1,8 +1,8 @@
 //! The answer to a question on a litmus text.
 
-ghost use Rattle.std.specs.Prelude.{IfErr, IfOk, OnOk};
+ghost use Rattle.std.specs.Prelude.{◌≡◌, IfErr, IfOk, OnOk};
 ghost use Rattle.lit_reason.specs.Explained.{HasAnswerOn, IsFaultOn, IsFoundOn, IsWithinLimits};
-ghost use Rattle.lit_reason.specs.Internal.Subjects.{IsSubjectOf, IsTestFault};
+ghost use Rattle.lit_reason.specs.Internal.Subjects.{IsSubjectOf, IsTestFault, is_found};
 
 use crate::choices::explain_choice;
 use crate::classes::explain_class;
@@ -44,6 +44,18 @@ enum Subject {
     OfNoNumber,
     /// A choice with sources that none has.
     OfNoSources,
+}
+
+impl Subject {
+    /// Whether it is a choice as it is asked for, where it is about one.
+    fn is_found(self) -> bool
+        ensures { result ≡ is_found self }
+    {
+        match self {
+            Subject::InClass(_) | Subject::Race | Subject::OfChoice(_) => true,
+            Subject::OfNoNumber | Subject::OfNoSources => false,
+        }
+    }
 }
 
 /// What a question is about on a test.
@@ -127,7 +139,7 @@ fn put_answer(
     } else {
         put_text(alloc, buffer, plan, statements, subject, asked.most)?;
     }
-    Ok(!matches!(subject, Subject::OfNoNumber | Subject::OfNoSources))
+    Ok(subject.is_found())
 }
 
 /// The text of a test with another condition.

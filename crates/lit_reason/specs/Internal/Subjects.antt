@@ -1,5 +1,5 @@
 -- What an answer is about, and why a test has none (this project's own).
-use Rattle.std.specs.Prelude.{◌≡◌, ◌<◌, ◌≤◌, length}
+use Rattle.std.specs.Prelude.{◌≡◌, Bool, true, false, cond, nat_lt, length}
 use Rattle.lit_syntax.specs.Syntax.{Litmus}
 use Rattle.lit_paths.specs.Choice.{choices_of}
 use Rattle.lit_paths.specs.Plan.{IsRefusal}
@@ -15,9 +15,16 @@ abbrev pub IsSubjectOf : Litmus → Question → Subject → Type 0
 IsSubjectOf t (InClass class) subject = subject ≡ subjects.InClass class
 IsSubjectOf t Race subject = subject ≡ subjects.Race
 IsSubjectOf t (OfChoice choice) subject =
-    ((choice < length (choices_of t)) → subject ≡ subjects.OfChoice choice)
-    × ((length (choices_of t) ≤ choice) → subject ≡ subjects.OfNoNumber)
+    subject ≡ cond (nat_lt choice (length (choices_of t))) (subjects.OfChoice choice) subjects.OfNoNumber
 IsSubjectOf t (OfSources words) subject = Unit {0}
+
+-- whether it is a choice as it is asked for, where it is about one
+abbrev pub is_found : Subject → Bool
+is_found (subjects.InClass class) = true
+is_found subjects.Race = true
+is_found (subjects.OfChoice choice) = true
+is_found subjects.OfNoNumber = false
+is_found subjects.OfNoSources = false
 
 -- why a test has no answer
 abbrev pub IsTestFault : Litmus → ReasonFault → Type 0
