@@ -1,2 +1,5 @@
+pub mod AgentLemmas
 pub mod ConditionLemmas
+pub mod RegisterLemmas
+pub mod StatementLemmas
 pub mod ToldLemmas

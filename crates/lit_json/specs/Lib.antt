@@ -1,1 +1,2 @@
+pub mod StatementData
 pub mod Told

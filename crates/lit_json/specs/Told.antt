@@ -1,19 +1,17 @@
 -- What the JSON of a text says of it (this project's own).
 use Rattle.std.specs.Prelude.{◌≡◌, ◌⊎◌, ◌≤◌, ℕ, List, codes, length}
-use Rattle.serde_json.specs.Data.{Data, null, boolean, number, string, array, object, unsigned, Items, no_items, item, Members, member, no_members}
+use Rattle.serde_json.specs.Data.{Data, null, boolean, string, array, object, Items, no_items, item, Members, member, no_members}
 use Rattle.lit_syntax.specs.Syntax.{Condition, Any, All, Not, Is, Conditions, NoMore, Also, Litmus, agent_of}
 use Rattle.lit_syntax.specs.declared.limits.TheConstants as syntax_limits
 use Rattle.lit_read.specs.Faults.{IsFirstFault}
 use Rattle.lit_read.specs.Spelling.{Spells}
+use Rattle.lit_read.specs.StatementLines.{ListsStatementLines}
 use Rattle.lit_read.specs.declared.fault.ReadKind.{ReadKind}
+use Rattle.lit_json.specs.StatementData.{agents_data, count}
 use Rattle.lit_paths.specs.Choice.{combinations_of, choices_of}
 use Rattle.lit_paths.specs.Plan.{HasFewEvents, IsRefusal}
 use Rattle.lit_paths.specs.declared.fault.PlanFault.{PlanFault}
 use Rattle.lit_paths.specs.declared.limits.TheConstants as path_limits
-
--- a number
-abbrev pub count : ℕ → Data
-count n = number (unsigned n)
 
 -- the limits, each by what it bounds
 abbrev pub limits_data : Data
@@ -56,15 +54,20 @@ abbrev mutual
   conditions_data t NoMore = no_items
   conditions_data t (Also c cs) = item (condition_data t c) (conditions_data t cs)
 
--- a test with its name, its block and its condition; of its agents nothing is said
-pub record IsTestData (t : Litmus) (value : Data) : Type 0 where
-  pub agents : Data
-  pub is : value ≡ object
-      (member (codes "agents") agents
-      (member (codes "bytes") (count t.bytes)
-      (member (codes "condition") (condition_data t t.check)
-      (member (codes "name") (string t.name)
-      no_members))))
+-- a test whose statements begin on these lines
+abbrev pub test_data : List ℕ → Litmus → Data
+test_data lines t = object
+    (member (codes "agents") (array (agents_data lines t.agents))
+    (member (codes "bytes") (count t.bytes)
+    (member (codes "condition") (condition_data t t.check)
+    (member (codes "name") (string t.name)
+    no_members))))
+
+-- the test, with the lines of the text on which its statements begin
+pub record IsTestOf (text : List ℕ) (t : Litmus) (value : Data) : Type 0 where
+  pub lines : List ℕ
+  pub listed : ListsStatementLines text lines
+  pub is : value ≡ test_data lines t
 
 -- a fault, with its line, or with null for the line
 pub record IsFaultData (line value : Data) : Type 0 where
@@ -83,7 +86,7 @@ pub record IsAllowed (text : List ℕ) (test counts fault : Data) : Type 0 where
   pub few_events : HasFewEvents litmus
   pub few_paths : length (combinations_of litmus) ≤ path_limits.COMBINATION_LIMIT
   pub few_choices : length (choices_of litmus) ≤ path_limits.CHOICE_LIMIT
-  pub told : IsTestData litmus test
+  pub told : IsTestOf text litmus test
   pub counted : counts ≡ counts_data litmus
   pub faultless : fault ≡ null
 
@@ -93,7 +96,7 @@ pub record IsTooLarge (text : List ℕ) (test counts fault : Data) : Type 0 wher
   pub spelled : Spells text litmus
   pub limit : PlanFault
   pub refused : IsRefusal litmus limit
-  pub told : IsTestData litmus test
+  pub told : IsTestOf text litmus test
   pub uncounted : counts ≡ null
   pub faulty : IsFaultData null fault
 

@@ -5,7 +5,8 @@ ghost use Rattle.serde_json.specs.Data.{null};
 ghost use Rattle.serde_json.specs.View.{view};
 ghost use Rattle.lit_paths.specs.declared.fault.PlanFault.TheVariants as limits;
 ghost use Rattle.lit_read.specs.declared.fault.ReadKind.TheVariants as kinds;
-ghost use Rattle.lit_json.specs.Told.{IsFaultData, count};
+ghost use Rattle.lit_json.specs.StatementData.{count};
+ghost use Rattle.lit_json.specs.Told.{IsFaultData};
 
 use lit_paths::PlanFault;
 use lit_read::{ReadFault, ReadKind};

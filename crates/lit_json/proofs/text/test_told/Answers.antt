@@ -18,7 +18,7 @@ returns c =
         spelled = c.requires;
         limit = c.in-Err.fault;
         refused = refused;
-        told = c.in_ok-value.ensures;
+        told = record { lines = c.in_ok-lines.lines.items; listed = c.in_ok-lines.ensures; is = search rules };
         uncounted = search (rules, the_lemmas);
         faulty = c.in_ok-fault-in-Err.ensures.told;
       }));
