@@ -145,9 +145,9 @@ async function tellVersion(name) {
   return 0;
 }
 
-// Runs a command's `main`, and ends with its status.
-function run(name, usage, main) {
-  stopAtSignals(name);
+// Runs a command's `main`, and ends with its status. One that starts no programs has none to stop, and a signal itself ends it.
+function run(name, usage, main, starts = true) {
+  if (starts) stopAtSignals(name);
   process.stdout.on('error', (error) => {
     if (error.code !== 'EPIPE') process.stderr.write(`${name}: ${plain(messageOf(error))}\n`);
     process.exit(4);

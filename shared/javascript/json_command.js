@@ -90,4 +90,4 @@ async function main(given) {
   return 0;
 }
 
-run('jslit-json', USAGE, main);
+run('jslit-json', USAGE, main, false);
