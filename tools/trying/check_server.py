@@ -275,7 +275,7 @@ def many_words(server):
         query = "&".join(f"w{number}=1" for number in range(100))
         wanted = {"/none": 404, "/": 404}.get(path, 400)
         same((path, server.ask("POST", f"{path}?{query}", litmus("sb").encode())[0]), (path, wanted))
-        same((path, server.ask("GET", f"{path}?{query}")[0]), (path, 404 if wanted == 404 else 405))
+        same((path, server.ask("GET", f"{path}?{query}")[0]), (path, {"/none": 404, "/": 200}.get(path, 405)))
 
 
 def ended_amid_runs():
