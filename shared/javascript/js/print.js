@@ -101,7 +101,7 @@ function hangLines(hangs, isAll, printer) {
 
 // Why there is no such outcome.
 function reasonLines(head, verb, { ways, isWhole, clauses, impossible, unwoken, first }, printer) {
-  if (ways === 0) return [`${head}: no way of the agents would ${verb}, whatever they read`];
+  if (ways === 0) return [`${head}: no way of the agents would ${verb} with the values that they can read`];
   const counts = [...clauses.map(({ clause, count: times }) => `${clause} forbids ${times}`),
     ...(impossible ? [`${impossible} read what is not written`] : []), ...(unwoken ? [`${unwoken} are woken by nobody`] : [])];
   const lines = [`${head}: ${count(ways, 'way', 'ways')} of the agents ${isWhole ? '' : 'and more '}would ${verb}: ${counts.join(', ')}`];
