@@ -12,7 +12,7 @@ import time
 
 from litmus.limits import TEXT
 from litmus.program import TOP
-from web.limits import REQUEST, RUNS, SECONDS
+from web.limits import LINGERING, REQUEST, RUNS, SECONDS
 from trying.check_javascript import asked_for_javascript
 from trying.check_reasons import reasons
 from trying.serving import feigned, litmus, named, same, served
@@ -227,6 +227,16 @@ def hundred_answered(server):
     wait_for(lambda: not children(server))
 
 
+def is_let_go(connection):
+    """Whether the server has ended a connection."""
+    try:
+        return connection.recv(65536, socket.MSG_DONTWAIT) == b""
+    except BlockingIOError:
+        return False
+    except OSError:
+        return True
+
+
 def slow_clients(server):
     """Connections that send a byte a second of a head or of a text, for as long as it goes: they are let go in time."""
     text = f"POST /quick HTTP/1.1\r\nHost: 127.0.0.1:{server.port}\r\nContent-Length: 60000\r\n\r\n"
@@ -245,6 +255,8 @@ def slow_clients(server):
     try:
         time.sleep(1.5)
         wait_for(lambda: server_answers(server), REQUEST + 3)
+        # Until then some have a place still, and more requests than are left may be refused.
+        wait_for(lambda: all(map(is_let_go, held)), 2 * REQUEST + LINGERING)
         hundred_answered(server)
     finally:
         over.set()
