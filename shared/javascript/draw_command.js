@@ -13,8 +13,9 @@ const USAGE = `jslit-draw [--program PROGRAM] FILE [N | EVENT=SOURCE,.. ..]
 jslit-draw --why [--unmet] FILE
 jslit-draw --race FILE
 
-Draws an execution of the litmus test in FILE as a Graphviz graph on standard output: with N the example of the report's
-N-th outcome, from 1; without it that of the first outcome that meets the condition. Each agent is a column of its
+Draws an execution of the litmus test in FILE as a Graphviz graph on standard output: with N one with the report's N-th
+outcome, from 1; without it one with the first outcome that meets the condition. That is the report's example, or one that
+mixes the sources of its reads less, which the title says. Each agent is a column of its
 accesses as they stand in the text, with the init events above; neighbours among these are in one box where the same
 events read them. The number after # is the event's place in the memory-order, and \`= 7\` the value that it reads. A red
 edge leads from each source to the event that reads it, with the bytes that it gives; it is blue and dashed where the two

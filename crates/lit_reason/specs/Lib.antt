@@ -1,3 +1,4 @@
+pub mod Example
 pub mod Explained
 pub mod Faults
 pub mod Internal

@@ -1,19 +1,16 @@
 //! Why no valid execution has an outcome of a class, or an example where one has.
 
-ghost use Rattle.std.specs.Prelude.{◌<◌, length};
-ghost use Rattle.lit_paths.specs.Choice.{choices_of};
-
 use crate::attempts::Tally;
 use crate::clauses::clause_at;
 use crate::cores::put_core;
-use crate::found::found_of;
+use crate::example::example_text;
 use crate::reasons::put_reason;
 use crate::scene::Scene;
 use crate::statements::Statements;
 use lit_paths::Plan;
-use lit_search::{Class, first_in};
-use lit_syntax::Test;
-use lit_why::attempts;
+use lit_search::Class;
+use lit_solve::Goal;
+use lit_why::{attempts, least_mixing};
 use std::alloc::Global;
 use std::io;
 use std::io::Write;
@@ -36,47 +33,10 @@ pub(crate) fn explain_class(
     most: usize,
 ) -> io::Result<()> {
     writeln!(buffer, "test {}", plan.test().name())?;
-    match first_in(plan, class, 0, plan.total()) {
-        Some(choice) => put_example(alloc, buffer, plan, statements, choice),
+    match least_mixing(plan, Goal::OfClass(class)) {
+        Some(example) => buffer.write_all(&example_text(alloc, plan, example.choice)?),
         None => put_attempts(alloc, buffer, plan, statements, class, most),
     }
-}
-
-/// Puts the line of an outcome, by its registers' names and values.
-fn put_outcome(
-    buffer: &mut Vec<u8>,
-    test: &Test,
-    names: &[(u8, u8)],
-    values: &[u32],
-) -> io::Result<()> {
-    buffer.write_all(b"outcome")?;
-    for (place, (agent, register)) in names.iter().enumerate() {
-        if usize::from(*agent) < test.agents() && place < values.len() {
-            let name = test.agent_name(usize::from(*agent));
-            write!(buffer, " {name}.r{register}={}", values[place])?;
-        }
-    }
-    buffer.write_all(b"\n")
-}
-
-/// Puts the outcome of a choice with its least memory-order. A choice without an outcome puts nothing.
-fn put_example(
-    alloc: Global,
-    buffer: &mut Vec<u8>,
-    plan: &Plan<'_>,
-    statements: &Statements,
-    choice: u64,
-) -> io::Result<()>
-    requires { choice < length (choices_of plan.now) }
-{
-    let found = found_of(alloc, &*plan, choice)?;
-    if found.len() == 0 {
-        return Ok(());
-    }
-    put_outcome(buffer, plan.test(), plan.names(), found.outcome(0))?;
-    let scene = Scene::new(plan, statements, choice);
-    scene.put_sources(buffer)?;
-    scene.put_order(buffer, found.example(0).order.as_slice())
 }
 
 /// Puts how many attempts there are, and by which clauses their least choices are refused.

@@ -12,8 +12,9 @@ use crate::found::found_of;
 use crate::scene::Scene;
 use crate::statements::Statements;
 use lit_paths::Plan;
-use lit_search::{Class, first_in};
-use lit_why::{attempts, first_race};
+use lit_search::Class;
+use lit_solve::Goal;
+use lit_why::{attempts, least_mixing};
 use lit_words::VERSION;
 use serde_json::{Map, Value, json};
 use std::alloc::{AllocError, Global};
@@ -160,21 +161,21 @@ pub(crate) fn class_value(
         "condition",
         Value::from(class == Class::Met),
     )?;
-    match first_in(plan, class, 0, plan.total()) {
-        Some(choice) => put_choice(alloc, &mut members, plan, statements, choice)?,
+    match least_mixing(plan, Goal::OfClass(class)) {
+        Some(example) => put_choice(alloc, &mut members, plan, statements, example.choice)?,
         None => put_attempts(alloc, &mut members, plan, statements, class, most)?,
     }
     Ok(Value::Object(members))
 }
 
-/// The first data race, or that there is none.
+/// An execution with a data race, or that there is none.
 pub(crate) fn race_value(
     alloc: Global,
     plan: &Plan<'_>,
     statements: &Statements,
 ) -> Result<Value, AllocError> {
     let mut members = head(alloc, plan)?;
-    let race = first_race(plan);
+    let race = least_mixing(plan, Goal::Race);
     put(
         alloc,
         &mut members,

@@ -11,6 +11,7 @@ mod classes;
 mod clauses;
 mod cores;
 mod cycles;
+mod example;
 mod execution;
 mod explanation;
 mod fault;

@@ -1,21 +1,22 @@
-//! Where the data race is: the least racing pair of the least execution that has one.
+//! Where the data race is: the least racing pair of the execution with one that mixes sources least.
 
 use crate::scene::Scene;
 use crate::statements::Statements;
 use crate::wording::{put_accessed, put_atomicity};
 use lit_paths::Plan;
-use lit_why::{RacingPair, first_race, racing_pair};
+use lit_solve::Goal;
+use lit_why::{RacingPair, least_mixing, racing_pair};
 use std::io;
 use std::io::Write;
 
-/// Puts the first data race of a test, or that there is none.
+/// Puts a data race of a test, or that there is none.
 pub(crate) fn explain_race(
     buffer: &mut Vec<u8>,
     plan: &Plan<'_>,
     statements: &Statements,
 ) -> io::Result<()> {
     writeln!(buffer, "test {}", plan.test().name())?;
-    let Some(example) = first_race(plan) else {
+    let Some(example) = least_mixing(plan, Goal::Race) else {
         return writeln!(buffer, "data race no");
     };
     let scene = Scene::new(plan, statements, example.choice);

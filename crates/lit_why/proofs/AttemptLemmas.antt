@@ -29,7 +29,7 @@ use Rattle.lit_why.specs.Internal.Domains.{AreDomainsBy}
 use Rattle.lit_why.specs.Internal.Trials.{IsLeastTryOn, IsRepresentative, IsStoredBefore, TriesIn}
 use Rattle.lit_why.proofs.AddedLemmas.{adds_more}
 use Rattle.lit_why.proofs.NodeLemmas.{on_sourced, placed, rises_at}
-use Rattle.lit_why.proofs.FirstRaceLemmas.{one_sources}
+use Rattle.lit_solve.proofs.RangeLemmas.{one_sources}
 
 -- ---- sources that make no difference
 pub both : (a b : Bool) → IsTrue (a && b) → IsTrue a × IsTrue b

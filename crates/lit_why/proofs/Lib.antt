@@ -7,9 +7,10 @@ pub mod CaseLemmas
 pub mod CountLemmas
 pub mod DerivationLemmas
 pub mod DomainLemmas
-pub mod FirstRaceLemmas
 pub mod LinkLemmas
+pub mod MixingLemmas
 pub mod NodeLemmas
+pub mod UnmixingLemmas
 pub mod UnrefutedLemmas
 pub mod UsedLineLemmas
 pub mod RaceLemmas

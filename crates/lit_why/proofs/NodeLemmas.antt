@@ -30,7 +30,7 @@ use Rattle.lit_why.specs.Attempts.{HasSoMany, IsOn}
 use Rattle.lit_why.specs.Internal.Added.{Adds}
 use Rattle.lit_why.specs.Internal.Trials.{IsNode, IsUndecided, MayTry, TriesIn}
 use Rattle.lit_why.proofs.AddedLemmas.{adds_more, adds_one}
-use Rattle.lit_why.proofs.FirstRaceLemmas.{one_sources}
+use Rattle.lit_solve.proofs.RangeLemmas.{one_sources}
 
 -- ---- choices on a combination
 pub placed : Laws → (t : Litmus) (n c : ℕ) (sources : List ℕ) → IsOn t n c sources → IsOfCombination t n c

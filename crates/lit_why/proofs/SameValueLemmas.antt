@@ -22,7 +22,7 @@ use Rattle.lit_why.specs.Attempts.{AreOneAttempt, IsTry, TriesClass, agree, all_
 use Rattle.lit_why.proofs.AskedLemmas.{asked_by_guard, asked_by_name, holds_same, valued_same}
 use Rattle.lit_why.proofs.AttemptLemmas.{both, one_combination}
 use Rattle.lit_why.proofs.NodeLemmas.{on_sourced}
-use Rattle.lit_why.proofs.FirstRaceLemmas.{one_sources}
+use Rattle.lit_solve.proofs.RangeLemmas.{one_sources}
 
 -- what a read takes of these bytes
 abbrev taken_of : List Event → ℕ → List (ℕ × ℕ) → List ℕ → List ℕ

@@ -41,7 +41,7 @@ use Rattle.lit_why.specs.Attempts.{AreFirstAttempts, AreOneAttempt, IsLeastTry, 
 use Rattle.lit_why.specs.Refutation.{IsCover, IsHiddenIn, IsRefutation, IsRefutedAttempt, case_box}
 use Rattle.lit_why.proofs.AttemptLemmas.{agree_at, agree_itself, both, one_combination}
 use Rattle.lit_why.proofs.CaseLemmas.{order_by}
-use Rattle.lit_why.proofs.FirstRaceLemmas.{one_sources}
+use Rattle.lit_solve.proofs.RangeLemmas.{one_sources}
 use Rattle.lit_why.proofs.NodeLemmas.{on_sourced, placed}
 use Rattle.lit_why.proofs.SameValueLemmas.{try_together}
 

@@ -2,8 +2,8 @@ pub mod Asked
 pub mod Attempts
 pub mod Chains
 pub mod Derivation
-pub mod FirstRace
 pub mod Internal
+pub mod LeastMixing
 pub mod RacingPair
 pub mod Refusal
 pub mod Refutation

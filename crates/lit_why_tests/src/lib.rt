@@ -6,6 +6,8 @@ mod attempts;
 #[cfg(test)]
 mod covers;
 #[cfg(test)]
+mod mixing;
+#[cfg(test)]
 mod race;
 #[cfg(test)]
 mod why;

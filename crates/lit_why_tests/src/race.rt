@@ -1,9 +1,10 @@
-//! `lit_why`: the first choice with a data race.
+//! `lit_why`: the choice that is shown of those with a data race.
 
 use lit_paths::plan;
 use lit_read::read;
+use lit_solve::Goal;
 use lit_texts::{MESSAGE_PASSING_PLAIN, PUBLICATION, STORE_BUFFERING};
-use lit_why::{first_race, is_data_race, part_of};
+use lit_why::{is_data_race, least_mixing, part_of};
 use std::alloc::AllocGlobal;
 use std::process::Abort;
 use std::test::Fail;
@@ -11,7 +12,7 @@ use std::test::Fail;
 /// A choice's number, its sources, and its least memory-order.
 type Told<'a> = (u64, &'a [u8], &'a [u8]);
 
-/// That the first choice with a data race is this one, or that there is none.
+/// That the choice that is shown of those with a data race is this one, or that there is none.
 fn assert_race(
     rt: &(impl Abort + AllocGlobal),
     text: &str,
@@ -19,7 +20,7 @@ fn assert_race(
 ) -> Result<(), Fail> {
     let test = read(rt.alloc(), text.as_bytes())?;
     let plan = plan(rt.alloc(), &test)?;
-    match (first_race(&plan), wanted) {
+    match (least_mixing(&plan, Goal::Race), wanted) {
         (Some(race), Some((choice, sources, order))) => {
             assert_eq!(rt; race.choice, choice);
             assert_eq!(rt; race.least.sources.as_slice(), sources);

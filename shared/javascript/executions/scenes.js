@@ -1,5 +1,5 @@
 'use strict';
-// The executions of a test that are drawn: an outcome's example, a choice by its sources, an attempt at the condition, a data race. `ask`
+// The executions of a test that are drawn: of an outcome, a choice by its sources, an attempt at the condition, a data race. `ask`
 // gives the JSON that jslit-why answers to some words on the text.
 
 const { Drawing } = require('./drawing.js');
@@ -15,12 +15,21 @@ async function asked(ask, sources, values) {
   return answer.execution ? new Execution(answer.execution) : null;
 }
 
-// The example of an outcome, by its sources and its registers' values.
+// The execution with the values of an outcome that mixes sources least; of a test without registers the one with the sources.
+async function showing(ask, sources, values) {
+  if (values.size === 0) return asked(ask, sources, values);
+  const condition = [...values].map(([register, value]) => `${register} == ${value}`).join(' && ');
+  const answer = await ask(['--condition', condition]);
+  return answer.execution ? new Execution(answer.execution) : null;
+}
+
+// An execution with an outcome, by its registers' values and the sources of the report's example. The title says where it is another.
 async function example(ask, text, test, sources, values) {
-  const execution = await asked(ask, sources, values);
-  if (execution === null || execution.refusal) throw new Fault('jslit-why knows no valid execution with these sources and values');
-  const title = [...values].map(([register, value]) => `${register}=${value}`).join(' ');
-  return new Drawing(`${test.name}: ${title}`, subjectOf(text, test), execution);
+  const execution = await showing(ask, sources, values);
+  if (execution === null || execution.refusal) throw new Fault('jslit-why knows no valid execution with these values');
+  const isExample = [...sources].every(([read, given]) => String(given) === String(execution.sources.get(read)));
+  const outcome = `${test.name}: ${[...values].map(([register, value]) => `${register}=${value}`).join(' ')}`;
+  return new Drawing(isExample ? outcome : `${outcome}\nnot the report's example, which mixes more sources`, subjectOf(text, test), execution);
 }
 
 // The least choice that has these sources.
