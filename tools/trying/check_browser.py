@@ -6,7 +6,7 @@ import urllib.parse
 from trying import check_javascript
 from trying.browser import Browser
 from trying.check_reasons import asked_why, raced
-from trying.check_saved import documents, saved
+from trying.check_saved import documents, opened, saved
 from trying.check_server import children, wait_for
 from trying.serving import feigned, litmus, named, same, served
 
@@ -391,5 +391,5 @@ def without_server(page):
 
 
 PROVED = (store_buffering, tearing, sorted_and_filtered, refused, quick, turns, linked, by_keyboard, narrow_and_dark, named_for_all, faults,
-          noted, raced, asked_why, folded, saved, documents, *check_javascript.CASES)
+          noted, raced, asked_why, folded, saved, documents, opened, *check_javascript.CASES)
 FEIGNED = (long_run, large, without_server)

@@ -1,6 +1,7 @@
 """What tools/check-page asks of what the page saves, and of the documents that it serves."""
 import math
 import pathlib
+import re
 import struct
 import subprocess
 import tempfile
@@ -53,3 +54,24 @@ def documents(page):
     page.open_link("main a[href^='/#t=']")
     page.until("document.documentElement.dataset.ready === 'yes'")
     page.run()
+
+
+# What the tutorial says of what stands in it, one after the other.
+OPENED = ("ready: verdict sometimes", "mended: verdict never", "check sometimes, fails in 2 of 4", "check sometimes, fails in 1 of 3",
+          "check always")
+
+
+def opened(page):
+    """Each whole text of the tutorial, opened in the editor by the link below it, and run there."""
+    blocks = re.findall(r"^```(\w*)\n(.*?)^```$", (TOP / "docs" / "TUTORIAL.md").read_text(), re.M | re.S)
+    texts = [text for kind, text in blocks if kind != "console" and re.search(r"^test \w+\nbytes|^agents\(", text, re.M)]
+    same(len(texts), len(OPENED))
+    for place, (text, told) in enumerate(zip(texts, OPENED)):
+        page.open_link("nav a[href='/doc/docs/TUTORIAL.md']")
+        links = page.value("[...document.querySelectorAll('.open a')].map((each) => each.getAttribute('href'))")
+        same(len(links), len(texts))
+        page.open_link(f".open a[href='{links[place]}']")
+        page.until("document.documentElement.dataset.ready === 'yes'")
+        same(page.text(), text)
+        page.click("#run")
+        page.until(f"document.querySelector('#verdict strong')?.innerText === {told!r}")

@@ -5,7 +5,7 @@ const { answerOf, checkIn } = require('./answer.js');
 const { Details, plain } = require('./details.js');
 const { Exploring } = require('./explore.js');
 const { Places } = require('./places.js');
-const { Refusal } = require('./refusal.js');
+const { Limit, Refusal } = require('./refusal.js');
 const { Program } = require('./trees.js');
 
 const WORDS = {
@@ -13,6 +13,9 @@ const WORDS = {
   14: 'the agents make too many accesses together',
   15: 'the reads of the agents may take their bytes in more than 2^48 ways',
 };
+
+const IN_TURN = 'no text was asked, since it would be past a limit: the outcomes are those of the interleavings, '
+  + 'of which none has a data race';
 
 // Asks by `say` of whoever has the programs, and gives the answers to whom they are for.
 class Asking {
@@ -31,7 +34,7 @@ class Asking {
     const { done, failed } = this.waiting.get(ask);
     this.waiting.delete(ask);
     if (refused === undefined) done(report);
-    else if (WORDS[refused]) failed(new Refusal(`${WORDS[refused]}: take fewer agents, turns or accesses`));
+    else if (WORDS[refused]) failed(new Limit(`${WORDS[refused]}: take fewer agents, turns or accesses`));
     else failed(new Refusal(`the program refuses a text that was made of this (${refused}): please report it`));
   }
 }
@@ -56,12 +59,12 @@ class Answering {
     await this.explore();
     const { made, answer, details } = this;
     const named = wanted.outcome === null ? null : await details.named(wanted.outcome);
+    const notes = [...this.program.notes.keys(), ...(made.isSequential ? [] : made.thin.notes), ...(made.isInTurn ? [IN_TURN] : [])];
     const [examples, races, hangs] = named ? [] : await Promise.all([details.examples(wanted.examples), details.races(), details.hangs()]);
     return { outcomes: answer.outcomes.map(plain), verdict: answer.verdict, named, examples, races, hangs, names: details.names,
       isAll: wanted.examples,
       why: !named && wanted.why && answer.verdict === 'always' ? await details.why() : null,
-      texts: made.texts.made.map(({ text }) => text).filter(Boolean),
-      notes: [...this.program.notes.keys(), ...(made.isSequential ? [] : made.thin.notes)] };
+      isInTurn: made.isInTurn, texts: made.texts.made.map(({ text }) => text).filter(Boolean), notes };
   }
 }
 

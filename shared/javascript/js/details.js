@@ -6,6 +6,7 @@ const { Check, dataIn, told } = require('./answer.js');
 const { Executions } = require('./executions.js');
 const { Refusal } = require('./refusal.js');
 const { reasonsOf } = require('./reasons.js');
+const { Strange } = require('./strange.js');
 const { dataOf, shown } = require('./values.js');
 
 const PATIENCE = 1000;   // milliseconds for the words of an outcome
@@ -70,12 +71,18 @@ class Details {
     return this.known.has(text);
   }
 
+  // Why there is no outcome that is wanted. The trees as they were first tell which values are strange, however often one asks.
+  async reasons(isWanted) {
+    this.strange ??= new Strange(this.trees);
+    return reasonsOf(this.executions, this.strange, (leaves) => this.isThere(leaves), isWanted);
+  }
+
   // Why the check holds always.
   async why() {
     const check = this.asked && new Check(this.asked);
     const fails = (leaves) => leaves.some(({ failed, end }) => failed.length || end === 'assert')
       || (check !== null && !check.holds(this.names, leaves));
-    return reasonsOf(this.executions, this.trees, (leaves) => this.isThere(leaves), fails);
+    return this.reasons(fails);
   }
 
   // What the words say of an outcome: those that there are, or why there is none.
@@ -85,7 +92,7 @@ class Details {
     const outcomes = this.answer.outcomes.filter(({ leaves }) => isWanted(leaves));
     const told = async (outcome) => ({ ...plain(outcome), example: await this.example(outcome) });
     if (outcomes.length) return { outcomes: await Promise.all(outcomes.map(told)) };
-    return { outcomes, reasons: await reasonsOf(this.executions, this.trees, (leaves) => this.isThere(leaves), isWanted) };
+    return { outcomes, reasons: await this.reasons(isWanted) };
   }
 
   // `A: true, B: [0, 1]`, as what the agents' numbers are told to give.

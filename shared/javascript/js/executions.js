@@ -2,6 +2,7 @@
 // What jslit-why says of one way of each agent, in the user's terms: an execution step by step, or what refuses it.
 
 const { traced } = require('./interleavings.js');
+const { Limit } = require('./refusal.js');
 const { dataOf, placeOf } = require('./steps.js');
 const { Straight, wayOf } = require('./straight.js');
 
@@ -35,11 +36,22 @@ class Executions {
     return new Straight(this.name, this.trees, ways, kept);
   }
 
-  // What there is on ways that these values lead, one list for each agent: {steps, text, words}, {refused}, or {impossible} where a value
-  // is one that none of these ways writes.
+  // The same, or null where it has more bytes than a text may have.
+  within(ways) {
+    try {
+      return this.straight(ways);
+    } catch (error) {
+      if (!(error instanceof Limit)) throw error;
+      return null;
+    }
+  }
+
+  // What there is on ways that these values lead, one list for each agent: {steps, text, words}, {refused}, {impossible} where a value
+  // is one that none of these ways writes, or {isPast} where their text is past a limit.
   async ofWays(values) {
-    const straight = this.straight(values.map((each, agent) => wayOf(this.trees.list[agent], agent, each).steps));
-    const told = await this.why(straight.text, []);
+    const straight = this.within(values.map((each, agent) => wayOf(this.trees.list[agent], agent, each).steps));
+    const told = straight && await this.why(straight.text, []);
+    if (!told || told.refused) return { isPast: true };
     if (told.execution) {
       const races = told.execution.races.map((names) => names.map((each) => straight.stepOf(each)));
       return { steps: this.data(straight.ordered(told.execution)), text: straight.text, choice: told.choice,
@@ -84,13 +96,16 @@ class Executions {
     return { clause, section, cases, whole, steps: this.data(steps), lines: told };
   }
 
-  // An event as it is called in a reason: {agent, file, line, which (of several accesses on one line)}, or {start}.
+  // An event as it is called in a reason: {agent, file, line, which (of several accesses on one line), does (where it is no access)}, or
+  // {start}.
   called(straight, name) {
     const step = straight.stepOf(name);
     if (step === null) return name.startsWith('init') ? { start: true } : { agent: name.split('.')[0], file: null, line: null };
     const { file, line } = placeOf(step.event.at);
     const same = straight.events[step.agent].filter(({ event: { at } }) => at?.file === file && at?.line === line);
-    return this.placed({ agent: this.names[step.agent], file, line, ...(same.length > 1 ? { which: same.indexOf(step) + 1 } : {}) });
+    const does = { wake: 'is woken', receive: 'takes the message' }[step.event.op];
+    const which = same.length > 1 ? { which: same.indexOf(step) + 1 } : {};
+    return this.placed({ agent: this.names[step.agent], file, line, ...which, ...(does ? { does } : {}) });
   }
 }
 

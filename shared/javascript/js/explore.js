@@ -3,7 +3,7 @@
 // but for values out of thin air, which `thin.js` looks for.
 
 const { Layout } = require('./layout.js');
-const { Refusal } = require('./refusal.js');
+const { Limit, Refusal } = require('./refusal.js');
 const { Texts, seeAccesses, walk } = require('./texts.js');
 const { keyOf } = require('./run.js');
 const { Interleavings } = require('./interleavings.js');
@@ -14,6 +14,7 @@ const MOST_ROUNDS = 200;
 const MOST_WAYS = 200000;
 const MOST_RESTARTS = 20;
 const MOST_SOWN = 3;
+const MOST_ALONE = 20000;   // states of interleavings that stand for texts
 
 // The values that each range has in the trees.
 function valuesIn(trees) {
@@ -45,7 +46,7 @@ function seeWays(trees) {
   const { name, root } = trees.list[counts.indexOf(Math.max(...counts))];
   let read = root;
   while (read.kids === undefined) read = read.next;
-  throw new Refusal(`the agents read their values in more than ${MOST_WAYS.toLocaleString('en')} ways together, `
+  throw new Limit(`the agents read their values in more than ${MOST_WAYS.toLocaleString('en')} ways together, `
     + `${name} in ${Math.max(...counts)} from here on: take fewer agents, turns or accesses`, read.event.at);
 }
 
@@ -124,7 +125,7 @@ class Exploring {
   async close(trees) {
     for (;;) {
       this.rounds += 1;
-      if (this.rounds > MOST_ROUNDS) throw new Refusal('the values that the agents read come to no end: let their loops make two turns');
+      if (this.rounds > MOST_ROUNDS) throw new Limit('the values that the agents read come to no end: let their loops make two turns');
       const made = await this.round(trees);
       if (made.unknown.every((values) => values.size === 0)) return made;
       made.unknown.forEach((values, place) => values.forEach((each) => trees.list[place].grow(each)));
@@ -136,20 +137,38 @@ class Exploring {
     const mixed = new Set();
     for (let restart = 0; restart < MOST_RESTARTS; restart += 1) {
       const trees = plant(this.program, mixed);
-      const space = new Interleavings(trees, () => seeAccesses(trees, new Layout(trees))).go();
-      let made = await this.close(trees);
-      let thin = seedsOf(this.program, trees, space);
-      const isSown = thin.seeds.length > 0;
-      for (let times = 0; thin.seeds.length && times < MOST_SOWN; times += 1) {
-        thin.seeds.forEach(({ agent, values }) => trees.list[agent].grow(values));
-        made = await this.close(trees);
-        thin = seedsOf(this.program, trees, space);
-      }
+      const made = await this.byTexts(trees).catch((error) => this.inTurn(trees, error));
       const broken = trees.setting.broken().filter((key) => !mixed.has(key));
-      if (broken.length === 0) return { ...made, trees, thin, space, isSown, ...known(made, thin, space, isSown) };
+      if (broken.length === 0) return { ...made, trees };
       broken.forEach((key) => mixed.add(key));
     }
     throw new Refusal('the agents access one word in too many ways');
+  }
+
+  async byTexts(trees) {
+    const space = new Interleavings(trees, () => seeAccesses(trees, new Layout(trees))).go();
+    let made = await this.close(trees);
+    let thin = seedsOf(this.program, trees, space);
+    const isSown = thin.seeds.length > 0;
+    for (let times = 0; thin.seeds.length && times < MOST_SOWN; times += 1) {
+      thin.seeds.forEach(({ agent, values }) => trees.list[agent].grow(values));
+      made = await this.close(trees);
+      thin = seedsOf(this.program, trees, space);
+    }
+    return { ...made, thin, space, isSown, isInTurn: false, ...known(made, thin, space, isSown) };
+  }
+
+  // Where texts are refused, the interleavings alone: if none has a data race, and there are no values out of thin air, these are all.
+  inTurn(trees, refusal) {
+    if (!(refusal instanceof Limit)) throw refusal;
+    try {
+      const space = new Interleavings(trees).go({ most: MOST_ALONE, isRaceFree: true });
+      const thin = space.isRaceFree ? seedsOf(this.program, trees, space) : null;
+      if (!thin?.isNone) throw refusal;
+      return { texts: { made: [] }, race: false, ended: space.outcomes(), thin, space, isSown: false, isInTurn: true, isSequential: true };
+    } catch (error) {
+      throw error instanceof Refusal ? refusal : error;
+    }
   }
 }
 

@@ -4,12 +4,11 @@
 // conflict), and waits and loops that nothing ends; docs/JAVASCRIPT.md has the rules. Values that a read isn't known to have are grown on
 // the way, since an interleaving is a valid execution.
 
-const { isRead, keyOf, writtenBy } = require('./run.js');
+const { isRead, keyOf, overlaps, writtenBy } = require('./run.js');
 
 const MOST_STATES = 150000;
 
 const byteOf = (value, place) => Math.floor(value / 256 ** place) % 256;
-const overlaps = (a, b) => a.block === b.block && a.first < b.first + b.size && b.first < a.first + a.size;
 const isSame = (a, b) => a.first === b.first && a.size === b.size;
 const readOf = ({ agent, event }) => `${agent} ${keyOf(event)} ${event.sc}`;
 const placeIn = (at) => (at ? `${at.file}:${at.line}` : '');
@@ -91,10 +90,11 @@ class Interleavings {
     this.states.push(state);
   }
 
-  go() {
+  // Goes through all states, up to so many; those that are to have no data race up to the first one.
+  go({ most = MOST_STATES, isRaceFree = false } = {}) {
     this.settle(new State({ nodes: this.list.map(({ root }) => root), memory: [], waiting: [], woken: [] }), 0, true);
     for (let place = 0; place < this.states.length; place += 1) {
-      if (place >= MOST_STATES) {
+      if (place >= most || (isRaceFree && this.races.size)) {
         this.isWhole = false;
         break;
       }
@@ -223,6 +223,13 @@ class Interleavings {
     for (const leaf of leaves) if (!this.leaves.has(leaf)) this.leaves.set(leaf, this.leaves.size);
     const key = leaves.map((leaf) => this.leaves.get(leaf)).join();
     if (!this.ended.has(key)) this.ended.set(key, { leaves, state });
+  }
+
+  // The outcomes, each as the leaves of its ways and the values that lead there.
+  outcomes() {
+    const values = (node) => this.way(node).filter((each) => each.node.kids).map(({ got }) => got);
+    return [...this.ended.values()].map(({ leaves, state: { nodes } }) =>
+      ({ leaves, values: nodes.map(values), isPerhaps: false, isInterleaved: true }));
   }
 
   // Nothing goes on: some agents wait, or go round and round.

@@ -9,11 +9,13 @@ const example = (found) => (found?.steps ? { steps: found.steps, text: found.tex
 
 const outcome = (each, found) => ({ outcome: each.text, holds: each.holds, perhaps: each.isPerhaps, example: example(found) });
 
-function reasons({ ways, isWhole, clauses, impossible, unwoken, first }) {
+function refusals({ ways, isWhole, clauses, impossible, unwoken, first }) {
   return { ways, whole: isWhole, clauses, not_written: impossible, not_woken: unwoken,
     first: first && { clause: first.clause, section: first.section, cases: first.cases, whole: first.whole, steps: first.steps,
       reason: first.lines } };
 }
+
+const reasons = ({ strange, ...found }) => ({ ...refusals(found), strange: strange && { reads: strange.reads, ...refusals(strange) } });
 
 // Of an outcome that was named.
 function namedOf({ outcomes, reasons: why }) {

@@ -3,7 +3,7 @@
 // rules: initial contents by xor, and a word as one byte.
 
 const { BLOCK_LIMIT } = require('./limits.js');
-const { Refusal } = require('./refusal.js');
+const { Limit } = require('./refusal.js');
 const { isRead, keyOf } = require('./run.js');
 const { each } = require('./trees.js');
 
@@ -88,7 +88,7 @@ class Layout {
     this.bytes = Math.max(1, at);
     if (at > BLOCK_LIMIT) {
       const [{ nodes }] = [...this.clusters].sort((a, b) => b.bytes - a.bytes);
-      throw new Refusal(`the agents read and write ${at} bytes of shared memory, and ${BLOCK_LIMIT} are followed: leave some out, `
+      throw new Limit(`the agents read and write ${at} bytes of shared memory, and ${BLOCK_LIMIT} are followed: leave some out, `
         + 'such as these', nodes[0].event.at);
     }
   }

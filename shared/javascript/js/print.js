@@ -6,6 +6,9 @@ const HOW = { waits: 'wait for ever', spins: 'go round for ever', listens: 'wait
 
 const count = (number, one, more) => (number === 1 ? `one ${one}` : `${number} ${more}`);
 
+// Why what synchronizes with something comes after it, where it doesn't read.
+const SYNCHRONIZED = { 'is woken': 'it is woken by that', 'takes the message': 'it takes what that sends' };
+
 // What prints steps and reasons: `place` gives where a line is, `code` what of a step's code is shown; lines of the file `main` go by their
 // numbers.
 class Printer {
@@ -60,9 +63,9 @@ class Printer {
     return [agent, this.near({ file, line }), which ? `(access ${which})` : ''].filter(Boolean).join(' ');
   }
 
-  because({ because, middle, source, read }) {
+  because({ because, middle, source, read, after }) {
     if (because === 'agent-order') return 'its own order';
-    if (because === 'synchronizes-with') return 'it reads what that writes (synchronizes-with)';
+    if (because === 'synchronizes-with') return `${SYNCHRONIZED[after.does] ?? 'it reads what that writes'} (synchronizes-with)`;
     if (because === 'made-before') return 'the start is first';
     return `${this.event(middle)} may not stand between ${this.event(source)} and its reader ${this.event(read)}`;
   }
@@ -99,18 +102,31 @@ function hangLines(hangs, isAll, printer) {
     ...(steps && (isAll || place === 0) ? printer.steps(steps) : [])]);
 }
 
+// What forbids these ways, by their counts.
+function countsOf({ clauses, impossible, unwoken }) {
+  return [...clauses.map(({ clause, count: times }) => `${clause} forbids ${times}`),
+    ...(impossible ? [`${impossible} read what is not written`] : []), ...(unwoken ? [`${unwoken} are woken by nobody`] : [])].join(', ');
+}
+
+function firstLines({ clause, section, cases, whole, steps, lines }, printer) {
+  const which = cases > 1 ? `, the first of ${whole ? '' : 'more than '}${cases} cases` : '';
+  return [`${clause} (${section})${which}`, ...printer.steps(steps), ...lines.map((line) => `  ${printer.reason(line)}`)];
+}
+
+// What would be if so many reads had strange values.
+function strangeLine({ reads, ways, isWhole, ...found }) {
+  const values = reads === 1 ? 'one read had a value that it can\'t have' : `${reads} reads had values that they can't have`;
+  if (ways === 0) return isWhole ? `nor would one if ${values}` : `nor would one that was followed if ${values}; not all were followed`;
+  return `if ${values}, ${count(ways, 'way', 'ways')} ${isWhole ? '' : 'and more '}would: ${countsOf(found)}`;
+}
+
 // Why there is no such outcome.
-function reasonLines(head, verb, { ways, isWhole, clauses, impossible, unwoken, first }, printer) {
-  if (ways === 0) return [`${head}: no way of the agents would ${verb} with the values that they can read`];
-  const counts = [...clauses.map(({ clause, count: times }) => `${clause} forbids ${times}`),
-    ...(impossible ? [`${impossible} read what is not written`] : []), ...(unwoken ? [`${unwoken} are woken by nobody`] : [])];
-  const lines = [`${head}: ${count(ways, 'way', 'ways')} of the agents ${isWhole ? '' : 'and more '}would ${verb}: ${counts.join(', ')}`];
-  if (first) {
-    const cases = first.cases > 1 ? `, the first of ${first.whole ? '' : 'more than '}${first.cases} cases` : '';
-    lines.push(`${first.clause} (${first.section})${cases}`, ...printer.steps(first.steps),
-      ...first.lines.map((line) => `  ${printer.reason(line)}`));
-  }
-  return lines;
+function reasonLines(head, verb, { ways, isWhole, isAll, first, strange, ...found }, printer) {
+  const values = isAll ? ', whatever they read of what is written there' : ' with the values that they can read';
+  const told = ways === 0 ? `no way of the agents would ${verb}${values}`
+    : `${count(ways, 'way', 'ways')} of the agents ${isWhole ? '' : 'and more '}would ${verb}: ${countsOf(found)}`;
+  const shown = first ?? strange?.first;
+  return [`${head}: ${told}`, ...(strange ? [strangeLine(strange)] : []), ...(shown ? firstLines(shown, printer) : [])];
 }
 
 function namedLines({ outcomes, reasons }, printer) {
@@ -123,7 +139,7 @@ const briefOf = ({ outcomes, verdict, races }) =>
   [`outcomes ${outcomes.length}`, `verdict ${verdict ?? 'always'}`, `data race ${races.is === 'none found' ? 'unknown' : races.is}`];
 
 // All lines of an answer.
-function linesOf({ outcomes, verdict, examples, races, hangs, why, named, notes, texts, isAll }, printer) {
+function linesOf({ outcomes, verdict, examples, races, hangs, why, named, notes, texts, isAll, isInTurn }, printer) {
   if (named) return namedLines(named, printer);
   const lines = outcomes.flatMap((outcome, place) =>
     [outcomeLine(outcome), ...(examples[place] ? printer.steps(examples[place].steps) : [])]);
@@ -136,8 +152,9 @@ function linesOf({ outcomes, verdict, examples, races, hangs, why, named, notes,
   for (const note of notes) lines.push(`note: ${note}`);
   if (outcomes.some(({ isPerhaps }) => isPerhaps)) lines.push(`note: ${PERHAPS}`);
   const [of, them] = texts.length === 1 ? ['one text', 'it'] : [`${texts.length} texts`, 'them'];
-  lines.push(`proved: the outcomes of ${of} (--text prints ${them}); tested, not proved: that these are this program. `
-    + 'Executions that end are listed, no others.');
+  const proved = isInTurn ? '' : `proved: the outcomes of ${of} (--text prints ${them}); `;
+  const what = isInTurn ? 'this program\'s outcomes' : 'this program';
+  lines.push(`${proved}tested, not proved: that these are ${what}. Executions that end are listed, no others.`);
   return lines;
 }
 

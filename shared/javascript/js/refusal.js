@@ -9,6 +9,9 @@ class Refusal extends Error {
   }
 }
 
+// A limit of a text or of the texts together.
+class Limit extends Refusal {}
+
 // The line that most of these accesses stand on, and how many: {at, times}.
 function busiest(events) {
   const lines = new Map();
@@ -19,4 +22,4 @@ function busiest(events) {
   return [...lines.values()].sort((a, b) => b.times - a.times)[0] ?? { at: null, times: 0 };
 }
 
-module.exports = { Refusal, busiest };
+module.exports = { Limit, Refusal, busiest };

@@ -16,6 +16,7 @@ class Ends extends Error {}   // a run ends here, whatever the code would do nex
 
 const isRead = (op) => op !== 'write';
 const keyOf = ({ block, first, size }) => `${block} ${first} ${size}`;
+const overlaps = (a, b) => a.block === b.block && a.first < b.first + b.size && b.first < a.first + a.size;
 
 // Where the innermost code of the user's files stands in a stack, or null; what `Function` made stands in no file.
 function placeIn(stack) {
@@ -368,4 +369,4 @@ class Run {
   }
 }
 
-module.exports = { Ends, MOST, Room, Run, isRead, keyOf, writtenBy };
+module.exports = { Ends, MOST, Room, Run, isRead, keyOf, overlaps, writtenBy };

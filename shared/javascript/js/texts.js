@@ -3,7 +3,7 @@
 // of an outcome tell.
 
 const { AGENT_LIMIT, COMBINATION_LIMIT, ACCESS_LIMIT, IF_LIMIT, REGISTERS, TEXT_LIMIT } = require('./limits.js');
-const { Refusal, busiest } = require('./refusal.js');
+const { Limit, Refusal, busiest } = require('./refusal.js');
 const { each, tooManyReads } = require('./trees.js');
 
 const MOST_TEXTS = 4000;
@@ -193,7 +193,7 @@ function longest(node, isIn) {
 function tooLong(list, measures) {
   const each = measures.map(({ accesses }, place) => `${list[place].name} ${accesses}`).join(', ');
   const { at, times } = busiest(measures.flatMap(({ events }) => events));
-  return new Refusal(`the agents make more than ${ACCESS_LIMIT} accesses together (${each}), this line ${times} of them: `
+  return new Limit(`the agents make more than ${ACCESS_LIMIT} accesses together (${each}), this line ${times} of them: `
     + 'take fewer agents, turns or accesses', at);
 }
 
@@ -217,7 +217,7 @@ class Texts {
 
   // The texts of a part.
   split(part) {
-    if (this.made.length > MOST_TEXTS) throw new Refusal(
+    if (this.made.length > MOST_TEXTS) throw new Limit(
       `the agents go so many ways together that more than ${MOST_TEXTS} texts would be asked: take fewer agents, turns or accesses`);
     const writers = this.trees.list.map((tree) => new Writer(this.layout, this.wakes, tree, part));
     const codes = writers.map((writer, place) => writer.code(this.trees.list[place].root));

@@ -5,8 +5,9 @@
 // agent that it may give a byte to, and so back. Any accesses whose ranges share a byte may be in a ring, but one whose every read
 // synchronizes, so of atomics of equal range, is a cycle in happens-before.
 
-const { isRead, keyOf, writtenBy } = require('./run.js');
+const { isRead, keyOf, overlaps, writtenBy } = require('./run.js');
 const { Refusal } = require('./refusal.js');
+const { unknownIn } = require('./trees.js');
 
 const MOST_RUNS = 120;         // reads of one agent, with a value each
 const MOST_WAYS = 12;          // to go on from there
@@ -16,7 +17,6 @@ const PROBES = [0x5b, 0x6d];   // stand for all that the source doesn't name
 
 const byteOf = (value, place) => Math.floor(value / 256 ** place) % 256;
 const cut = (value, size) => ((Math.trunc(value) % 256 ** size) + 256 ** size) % 256 ** size;
-const overlaps = (a, b) => a.block === b.block && a.first < b.first + b.size && b.first < a.first + a.size;
 const isSame = (a, b) => a.first === b.first && a.size === b.size;
 const synchronizes = (write, read) => write.sc && read.sc && isSame(write, read);
 
@@ -83,17 +83,7 @@ class Reads {
   // Runs of an agent that read what isn't known, those with the fewest reads before it first. What they read after it is taken from
   // what is tried there too, in several ways.
   strange(tree, agent) {
-    const waiting = [];
-    const visit = (root, path) => {
-      let node = root;
-      while (node && !node.leaf && !node.kids) node = node.next;
-      if (!node || node.leaf) return;
-      if (node.event.op !== 'choice') for (const value of this.valuesAt(node.event, true)) if (!node.kids.has(value)) waiting.push(
-        [...path, value]);
-      node.kids.forEach((kid, value) => visit(kid, [...path, value]));
-    };
-    visit(tree.root, []);
-    waiting.sort((a, b) => a.length - b.length);
+    const waiting = unknownIn(tree, (event) => this.valuesAt(event, true)).sort((a, b) => a.length - b.length);
     this.isWhole &&= waiting.length <= MOST_RUNS;
     for (const values of waiting.slice(0, MOST_RUNS)) {
       let ways = 1;

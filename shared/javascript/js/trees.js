@@ -4,9 +4,9 @@
 
 const { vm } = require('./host.js');
 const { instrument } = require('./instrument.js');
-const { Refusal } = require('./refusal.js');
+const { Limit, Refusal } = require('./refusal.js');
 const { REGISTERS } = require('./limits.js');
-const { Room, Run, isRead, keyOf, writtenBy } = require('./run.js');
+const { Room, Run, isRead, keyOf, overlaps, writtenBy } = require('./run.js');
 
 const MOST_RUNS = 1200;
 
@@ -109,19 +109,23 @@ class Tree {
   }
 }
 
+// What a read gets behind these writes, {event, written}, one after the other.
+function valueAfter(setting, read, writes) {
+  const bytes = Array.from({ length: read.size }, (_, place) => setting.initial(read.block, read.first + place));
+  for (const { event, written } of writes.filter((write) => write.written !== null && overlaps(write.event, read))) {
+    for (let place = 0; place < event.size; place += 1) {
+      const at = event.first + place - read.first;
+      if (at >= 0 && at < read.size) bytes[at] = Math.floor(written / 256 ** place) % 256;
+    }
+  }
+  return bytes.reduceRight((value, byte) => value * 256 + byte, 0);
+}
+
 // What a read gets where its agent runs alone.
 function aloneIn(setting) {
   return (read, events) => {
     if (['wake', 'receive', 'choice'].includes(read.op)) return 0;
-    const bytes = Array.from({ length: read.size }, (_, place) => setting.initial(read.block, read.first + place));
-    for (const event of events) {
-      const written = event === read || event.block !== read.block ? null : writtenBy(event);
-      for (let place = 0; written !== null && place < event.size; place += 1) {
-        const at = event.first + place - read.first;
-        if (at >= 0 && at < read.size) bytes[at] = Math.floor(written / 256 ** place) % 256;
-      }
-    }
-    return bytes.reduceRight((value, byte) => value * 256 + byte, 0);
+    return valueAfter(setting, read, events.filter((event) => event !== read).map((event) => ({ event, written: writtenBy(event) })));
   };
 }
 
@@ -133,7 +137,7 @@ function seeAlone({ program, role, setting, name }) {
 }
 
 function tooManyReads(name, at) {
-  return new Refusal(`the agent ${name} reads more than ${REGISTERS} values on one way, one more here: take fewer turns, `
+  return new Limit(`the agent ${name} reads more than ${REGISTERS} values on one way, one more here: take fewer turns, `
     + 'or a part of it', at);
 }
 
@@ -199,4 +203,21 @@ function each(node, visit) {
   else each(node.next, visit);
 }
 
-module.exports = { Program, Tree, each, plant, tooManyReads };
+// The values that reads of a tree aren't known to have, each behind those that lead to its read: `valuesAt` has those that may be tried
+// at a read, given its event and the node.
+function unknownIn(tree, valuesAt) {
+  const found = [];
+  const visit = (root, path) => {
+    let node = root;
+    while (node && !node.leaf && !node.kids) node = node.next;
+    if (!node || node.leaf) return;
+    if (node.event.op !== 'choice') {
+      for (const value of valuesAt(node.event, node, path)) if (!node.kids.has(value)) found.push([...path, value]);
+    }
+    node.kids.forEach((kid, value) => visit(kid, [...path, value]));
+  };
+  visit(tree.root, []);
+  return found;
+}
+
+module.exports = { Program, Tree, each, plant, tooManyReads, unknownIn, valueAfter };

@@ -6,6 +6,7 @@ const { execFile } = require('child_process');
 const { ReportReader } = require('../../report.js');
 const { answerOf, checkIn } = require('../answer.js');
 const { Exploring } = require('../explore.js');
+const { Limit } = require('../refusal.js');
 const { Run, isRead, keyOf } = require('../run.js');
 const { Program, plant } = require('../trees.js');
 
@@ -52,6 +53,19 @@ async function answered(source, main = 'main.js') {
   const made = await new Exploring(program, 'it', ask).whole();
   const names = made.trees.list.map(({ name }) => name);
   return { ...answerOf(names, made.ended, checkIn(program.files)), ...made, names, program };
+}
+
+// The outcomes by the interleavings alone, or null where these don't stand for texts.
+function answeredInTurn(source) {
+  const program = programOf(source);
+  const trees = plant(program);
+  try {
+    const { ended } = new Exploring(program, 'it', ask).inTurn(trees, new Limit('none'));
+    return trees.setting.broken().length ? null : textsOf(answerOf(trees.list.map(({ name }) => name), ended, null));
+  } catch (error) {
+    if (error instanceof Limit) return null;
+    throw error;
+  }
 }
 
 const textsOf = (answer) => new Set(answer.outcomes.map(({ text }) => text));
@@ -143,4 +157,4 @@ function randomOf(seed) {
   };
 }
 
-module.exports = { agentsOf, answered, ask, askWhy, everyInterleaving, interleaving, keyOf, programOf, randomOf, tellOf, textsOf };
+module.exports = { agentsOf, answered, answeredInTurn, ask, askWhy, everyInterleaving, interleaving, keyOf, programOf, randomOf, tellOf, textsOf };

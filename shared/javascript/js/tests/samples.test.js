@@ -27,7 +27,7 @@ for (const file of fs.readdirSync(SAMPLES).filter((each) => /^[\w-]+\.js$/.test(
   if (fs.existsSync(beside('why'))) test(`${file}, why`, () => {
     const lines = told(file, '--why').split('\n');
     const first = lines.findIndex((line) => line.startsWith('why: '));
-    const last = lines.findIndex((line, place) => place > first && !/^( |memory-order|coherent|tear|happens)/.test(line));
+    const last = lines.findIndex((line, place) => place > first && !/^( |if |nor |memory-order|coherent|tear|happens)/.test(line));
     assert.equal(`${lines.slice(first, last).join('\n')}\n`, fs.readFileSync(beside('why'), 'utf8'));
   });
 }

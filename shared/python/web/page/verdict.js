@@ -8,6 +8,8 @@ export function say(kind, ...inside) {
   const place = byId('verdict');
   place.className = `is-${kind}`;
   place.replaceChildren(...inside);
+  // On a narrow page the answer stands below all that one writes.
+  if (kind === 'told' || kind === 'stopped') place.scrollIntoView({ block: 'nearest' });
 }
 
 const access = ({ name, line, code }) => [make('code', {}, code), ` (${name}, line ${line})`];
