@@ -64,18 +64,34 @@ find_program() {
     build
 }
 
+# Says on the terminal that a run goes on: after two seconds, after ten, and then each minute. It ends with the start that it is a part of.
+show_life() {
+    local waited=0
+    # (it holds the terminal for a second more at the most)
+    while sleep 1 && kill -0 $$ 2>/dev/null; do
+        waited=$((waited + 1))
+        if [ $waited -eq 2 ] || [ $waited -eq 10 ] || [ $((waited % 60)) -eq 0 ]; then echo "$name: at it for $waited s" >&2; fi
+    done
+}
+
 # start CRATE WORDS..: runs the program of this crate with these words. Where the standard error is a terminal and its status one of
-# `explained`, jslit-explain says more there, with the word that stands beside the status.
+# `explained`, jslit-explain says more there, with the word that stands beside the status. There a program that is `quiet` itself is
+# seen to live.
 start() {
-    local status=0
+    local status=0 life=
     find_program "$@"
     shift
-    if [ ${#explained[@]} -eq 0 ] || [ ! -t 2 ] || ! command -v node >/dev/null; then
+    if [ ${#explained[@]} -eq 0 ] || [ ! -t 2 ]; then
         exec "$program" "$@"
         fail "the program can't be run"
     fi
+    if [ -n "${quiet-}" ]; then
+        show_life </dev/null >/dev/null &
+        life=$!
+    fi
     "$program" "$@" || status=$?
-    if [ -n "${explained[$status]+there}" ]; then
+    [ -z "$life" ] || kill "$life" 2>/dev/null
+    if [ -n "${explained[$status]+there}" ] && command -v node >/dev/null; then
         # shellcheck disable=SC2086
         "$top/bin/jslit-explain" --program "$program" ${explained[$status]} "$@" || true
     fi

@@ -96,14 +96,14 @@ ask_for() {
     words=(build --crate-name "$1" "src/$2.rt" --extern "std=$kit/rlibs/std.rlib")
     for each in ${needs[$1]}; do
         if [ -n "${state[$each]-}" ]; then
-            words+=(--extern "$each=../$each/out/statements/$each.rlib")
+            words+=(--extern "$each=../$each/$libraries/$each.rlib")
         else
             words+=(--extern "$each=$kit/rlibs/$each.rlib")
         fi
     done
     words+=(-L "dependency=$kit/rlibs")
     for each in "${crates[@]}"; do
-        [ "${state[$each]}" != proved ] || words+=(-L "dependency=../$each/out/statements")
+        [ "${state[$each]}" != proved ] || words+=(-L "dependency=../$each/$libraries")
     done
     words+=(--antt-project "$kit/rattle/logic/antt-project.json" --logic-built "$kit/logic_built" --links "$1=" --jobs "$3")
 }
@@ -116,17 +116,57 @@ start_library() {
     (cd "$room/$1" && exec "$kit/bin/rattle" "${words[@]}" --statements -o "out/statements/$1.rlib") >"$logs/$1" 2>&1 </dev/null 8>&- 9>&- &
 }
 
+# Proves the program and compiles it to its object, in its folder.
+compile_program() {
+    local words
+    ask_for "$1" main "$jobs"
+    cd "$room/$1" && "$kit/bin/rattle" "${words[@]}" --toolchain "$kit/toolchain" --backend llvm -o "out/$1.o"
+}
+
 # Proves the program in the background, compiles it and links it.
 start_program() {
-    local words target=(--target x86_64-unknown-linux-gnu --toolchain "$kit/toolchain")
-    ask_for "$1" main "$jobs"
-    (cd "$room/$1" && "$kit/bin/rattle" "${words[@]}" "${target[@]:2}" --backend llvm -o "out/$1.o" &&
-        exec "$kit/bin/rattle-link" "${target[@]}" -o "out/$1" "out/$1.o" "$kit"/c/lib{os,libc}_c.a) >"$logs/$1" 2>&1 </dev/null 8>&- 9>&- &
+    (compile_program "$1" && exec "$kit/bin/rattle-link" --target x86_64-unknown-linux-gnu --toolchain "$kit/toolchain" \
+        -o "out/$1" "out/$1.o" "$kit"/c/lib{os,libc}_c.a) >"$logs/$1" 2>&1 </dev/null 8>&- 9>&- &
+}
+
+# Makes a toolchain whose clang keeps the LLVM module that it is given, as the file $1, and sets `keeping` to it.
+make_keeping() {
+    local each
+    keeping=$PWD/$logs/toolchain
+    mkdir -p "$keeping/bin" || fail "$keeping can't be made"
+    for each in "$kit"/toolchain/* "$kit"/toolchain/bin/*; do
+        each=${each#"$kit/toolchain/"}
+        [[ $each == bin || $each == bin/clang ]] || ln -s "$kit/toolchain/$each" "$keeping/$each" || fail "$keeping can't be made"
+    done
+    printf '#!/bin/sh\nfor each; do case $each in *.bc) cp "$each" "%s" || exit ;; esac; done\nexec "%s" "$@"\n' \
+        "$PWD/$1" "$kit/toolchain/bin/clang" >"$keeping/bin/clang" && chmod +x "$keeping/bin/clang" || fail "$keeping can't be made"
+}
+
+# Proves a library for C in the background and compiles it.
+start_for_c() {
+    local words keeping
+    ask_for "$1" lib "$jobs"
+    make_keeping "$1/out/$1.bc"
+    (cd "$room/$1" && exec "$kit/bin/rattle" "${words[@]}" --crate-type staticlib --toolchain "$keeping" --backend llvm -o "out/lib$1.a") \
+        >"$logs/$1" 2>&1 </dev/null 8>&- 9>&- &
+}
+
+# Makes over the libraries that `rt ci` proved what it leaves no trace of: a library for C, or the object of a program.
+make_missing() {
+    local each status=0
+    libraries=out/rlib
+    for each in "${crates[@]}"; do [ "$each" = "$crate" ] || state[$each]=proved; done
+    prepare
+    if [ -n "$is_for_c" ]; then start_for_c "$crate"; else compile_program "$crate" >"$logs/$crate" 2>&1 </dev/null & fi
+    wait $! || status=$?
+    [ $status -eq 0 ] || { cat "$logs/$crate"; fail "$crate is not proved, or not built (status $status)"; }
 }
 
 # Starts a crate that is ready: by a process on each processor, if it is the one that others wait for longest.
 start() {
-    if [ "$1" = "$crate" ]; then
+    if [ "$1" = "$crate" ] && [ -n "$is_for_c" ]; then
+        start_for_c "$1"
+    elif [ "$1" = "$crate" ]; then
         start_program "$1"
     elif [ "$1" = "$main" ]; then
         start_library "$1" "$jobs"

@@ -7,8 +7,8 @@ use Rattle.std.proofs.KnownBytes.{Appends-kept}
 use Rattle.jslit.specs.Answer.{HasGrown, HasGrownSome, HasGrownRefusal, IsCheckStatus, status_of}
 use Rattle.lit_print.specs.Counted.{device_of, failures_of}
 use Rattle.jslit.specs.Devices.{OfToldText}
-use Rattle.jslit.specs.RunAnswer.{HasRun, HasServed}
-use Rattle.jslit.specs.Internal.Saying.{HasSaid, IsSaid}
+use Rattle.jslit.specs.RunAnswer.{HasRun, HasSaid, HasServed}
+use Rattle.jslit.specs.Internal.Saying.{IsSaid}
 use Rattle.lit_print.specs.declared.counted.Counted.{Counted}
 use Rattle.jslit.specs.declared.fault.RunFault.{RunFault}
 use Rattle.jslit.specs.declared.fault.RunFault.TheVariants as faults

@@ -2,6 +2,7 @@
 pub mod Faults
 pub mod Reading
 pub mod FirstEntry
+pub mod Searching
 pub mod Answering
 pub mod Judging
 pub mod Saying

@@ -1,11 +1,14 @@
 -- The effect of a run on its reader and its writer, and the program's status after it (this project's own).
 use Rattle.std.specs.Prelude.{◌≡◌, ◌≢◌, ◌⊎◌, ◌↔◌, ◌<◌, ◌≤◌, ◌+◌, ℕ, List, Option, Result, IfErr, IsErrOf, OnOk}
+use Rattle.std.specs.Io.KnownBytes.{Appends}
 use Rattle.lit_syntax.specs.declared.limits.TheConstants.{TEXT_LIMIT}
 use Rattle.lit_print.specs.declared.counted.Counted.{Counted}
 use Rattle.jslit.specs.declared.fault.RunFault.{RunFault}
 use Rattle.jslit.specs.declared.fault.RunFault.TheVariants as faults
 use Rattle.jslit.specs.Answer.{HasGrown, HasGrownRefusal, HasGrownSome}
 use Rattle.lit_print.specs.Counted.{device_of, failures_of}
+use Rattle.lit_print.specs.Writing.{AppendsBeginning}
+use Rattle.jslit.specs.RefusalText.{refusal_line}
 use Rattle.jslit.specs.Devices.{ConsumesBeginning, ConsumesTold, OfToldText}
 
 -- A run that reads a text, and writes an answer of this kind on it or has a fault of this kind.
@@ -45,3 +48,8 @@ pub record HasServed {W : Type 0} (contents : W → Option (List ℕ)) (told : O
   pub begun : status ≡ 4 → (new ≡ old)
       ⊎ OfToldText told (λ text. HasGrownSome (IsAnswer text) (contents (device_of old)) (contents (device_of new)))
   pub unwritten : input_failed → (status ≡ 4) × (new ≡ old)
+
+-- known bytes grew by the line of a refusal, and where a write failed, by a beginning of it
+pub record HasSaid (fault : RunFault) (old new : Option (List ℕ)) (failed : Type 0) : Type 0 where
+  pub written : ¬ failed → Appends old new (refusal_line fault)
+  pub begun : failed → AppendsBeginning old new (refusal_line fault)

@@ -8,12 +8,12 @@ ghost use Rattle.jslit.specs.Answer.{IsAnswerOn, IsCheckStatus, IsFaultOn, IsSta
 ghost use Rattle.lit_print.specs.Counted.{device_of, failures_of};
 ghost use Rattle.jslit.specs.InterleavingAnswer.{IsInterleavingOn, IsScheduleFaultOn};
 ghost use Rattle.jslit.specs.ProgramAnswer.{HasAnswered, IsAnswerBy, IsFaultBy};
-ghost use Rattle.jslit.specs.RunAnswer.{HasServed};
-ghost use Rattle.jslit.specs.Internal.Saying.{HasSaid, IsExplained, IsSaid};
+ghost use Rattle.jslit.specs.RunAnswer.{HasSaid, HasServed};
+ghost use Rattle.jslit.specs.Internal.Saying.{IsExplained, IsSaid};
 ghost use Rattle.clap.specs.Words.{kind_of};
 
-use crate::engine::answering::passes;
-use crate::engine::run_watched;
+use crate::engine::workers::passes;
+use crate::engine::{run_alone, run_watched};
 use crate::fault::RunFault;
 use crate::interleaving::run_schedule;
 use crate::report::refusal_writer::{write_plan_fault, write_read_fault, write_unknown_agent};
@@ -160,6 +160,25 @@ pub fn check_watched<T: Threads + Sync, R: Read, W: Write, E: Write, G: Watch<Pa
     finish(output, errors, ran)
 }
 
+/// This is `check` on the thread that calls, alone: it needs no runtime, so a static library can call it.
+pub fn check_alone<R: Read, W: Write, E: Write>(
+    alloc: Global,
+    input: &mut Counted<R>,
+    output: &mut Counted<W>,
+    errors: &mut E,
+    quick: bool,
+) -> u8
+    requires input { failures_of input.old < 2 ^ 64 - 1 }
+    requires output { failures_of output.old < 2 ^ 64 - 1 }
+    ensures status { IsCheckStatus result }
+    ensures memory { result ≡ 3 → output.new ≡ output.old }
+    ensures served { HasServed W.contents (R.remaining (device_of input.old)) (failures_of input.old < failures_of input.new)
+        (IsAnswerOn quick) IsFaultOn result output.old output.new }
+{
+    let ran = run_alone(alloc, input, output, quick);
+    finish(output, errors, ran)
+}
+
 /// Prints the outcome of a schedule on the litmus text of the input, or one line that says why there is none.
 /// Gives the status: 0 for the schedule's outcome, 1 for a text or schedule that is refused, 3 where memory ran out, 4 for
 /// an input or output that failed.
@@ -202,8 +221,9 @@ fn finish<W: Write, E: Write>(
     }
 }
 
-/// Prints the line of a fault, and gives the status. Where printing it fails, the status stays the same.
-fn say<W: Write, E: Write>(output: &mut Counted<W>, errors: &mut E, fault: RunFault) -> u8
+/// Prints the line of a fault, and gives the status: that of a refusal on the output, that of another fault on the errors. Where printing
+/// it fails, the status stays the same.
+pub fn say<W: Write, E: Write>(output: &mut Counted<W>, errors: &mut E, fault: RunFault) -> u8
     requires { status_of fault ≡ 1 → failures_of output.old < 2 ^ 64 - 1 }
     ensures status { result ≡ status_of fault }
     ensures refused { result ≡ 1 → HasSaid fault (W.contents (device_of output.old)) (W.contents (device_of output.new))

@@ -1,14 +1,18 @@
 //! From the bytes of a litmus text to the bytes of its report.
 
-pub(crate) mod answering;
+mod alone;
+mod answering;
 mod cutting;
+pub(crate) mod printing;
+pub(crate) mod workers;
 
 ghost use Rattle.std.specs.Prelude.{◌≡◌, ◌<◌, ◌^◌, ◌-◌, length};
 ghost use Rattle.jslit.specs.Answer.{IsAnswerOn, IsFaultOn};
 ghost use Rattle.lit_print.specs.Counted.{failures_of};
 ghost use Rattle.jslit.specs.RunAnswer.{HasRun};
 
-use crate::engine::answering::{answer, passes};
+use crate::engine::alone::answer_alone;
+use crate::engine::workers::{answer, passes};
 use crate::fault::RunFault;
 use crate::reading::read_text;
 use crate::watch::Watch;
@@ -59,4 +63,19 @@ pub fn run_watched<T: Threads + Sync, R: Read, W: Write, G: Watch>(
 {
     let text = read_text(alloc, input)?;
     answer(rt, alloc, &text, output, options, watch, passes)
+}
+
+/// This is `run` on the thread that calls, alone: it needs no runtime, so a static library can call it.
+pub fn run_alone<R: Read, W: Write>(
+    alloc: Global,
+    input: &mut Counted<R>,
+    output: &mut Counted<W>,
+    quick: bool,
+) -> Result<(), RunFault>
+    requires input { failures_of input.old < 2 ^ 64 - 1 }
+    requires output { failures_of output.old < 2 ^ 64 - 1 }
+    ensures { HasRun R.remaining W.contents (IsAnswerOn quick) IsFaultOn result input.old input.new output.old output.new }
+{
+    let text = read_text(alloc, input)?;
+    answer_alone(alloc, &text, output, quick)
 }

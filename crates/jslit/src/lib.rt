@@ -1,11 +1,11 @@
 //! jslit: the outcomes that the memory model of ECMAScript allows a litmus test, and whether its condition holds.
 //!
 //! `run` reads a litmus text from a reader and writes its report to a writer: its contract is the theorem of this
-//! repository, from the bytes in to the bytes out. `run_schedule` carries a test out step by step, in turns that the caller
-//! names. `program` is the program around both. The definitions stand in specs/: `Answer` (what a run answers for a text),
-//! `InterleavingAnswer`, `Schedule`, `ReportText` (`lit_print` has the text of an entry), `Verdict`, `Devices` and
-//! `ProgramAnswer` (`lit_words` has what the words of the command line ask for); those in `Internal` serve private contracts,
-//! and say how a fault of a lower crate becomes one of a run.
+//! repository, from the bytes in to the bytes out. `run_alone` is the same on the thread that calls. `run_schedule` carries a
+//! test out step by step, in turns that the caller names. `program` is the program around both. The definitions stand in specs/:
+//! `Answer` (what a run answers for a text), `InterleavingAnswer`, `Schedule`, `ReportText` (`lit_print` has the text of an
+//! entry), `Verdict`, `Devices` and `ProgramAnswer` (`lit_words` has what the words of the command line ask for); those in
+//! `Internal` serve private contracts, and say how a fault of a lower crate becomes one of a run.
 #![tactic(auto)]
 
 mod command;
@@ -19,8 +19,10 @@ mod report;
 mod verdict;
 mod watch;
 
-pub use command::{check, check_schedule, check_watched, no_words, program, program_watched};
-pub use engine::{run, run_watched};
+pub use command::{
+    check, check_alone, check_schedule, check_watched, no_words, program, program_watched, say,
+};
+pub use engine::{run, run_alone, run_watched};
 pub use fault::RunFault;
 pub use interleaving::run_schedule;
 pub use lit_print::Counted;

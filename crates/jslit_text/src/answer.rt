@@ -3,10 +3,9 @@
 use crate::command::file_of;
 use clap::Error;
 use clap::error::ErrorKind;
-use lit_json::text_value;
+use lit_json::text_line;
 use lit_syntax::TEXT_LIMIT;
 use lit_words::VERSION;
-use serde_json::Value;
 use std::alloc::Global;
 use std::convert::AsStr;
 use std::io::{Read, Write};
@@ -44,14 +43,6 @@ fn read_text<R: Read + Drop>(alloc: Global, input: R) -> io::Result<Vec<u8>> {
     Ok(text)
 }
 
-/// The version alone, without the line of the toolchain.
-fn version() -> &'static str {
-    match VERSION.split_once("\n") {
-        Some((version, _)) => version,
-        None => VERSION,
-    }
-}
-
 /// Prints what a text says. Gives the status.
 fn answer_text<W: Write, E: Write>(
     alloc: Global,
@@ -59,20 +50,13 @@ fn answer_text<W: Write, E: Write>(
     output: &mut W,
     errors: &mut E,
 ) -> u8 {
-    let Ok(value) = text_value(alloc, version(), text) else {
+    let Ok(told) = text_line(alloc, VERSION, text) else {
         return say(errors, "out_of_memory", 3);
     };
-    let Ok(mut line) = value.to_vec(alloc) else {
-        return say(errors, "out_of_memory", 3);
-    };
-    let Ok(()) = line.push(b'\n') else {
-        return say(errors, "out_of_memory", 3);
-    };
-    if output.write_all(&line).is_err() || output.flush().is_err() {
+    if output.write_all(&told.line).is_err() || output.flush().is_err() {
         return say(errors, "output_failed", 4);
     }
-    let is_test = value.get("fault").is_some_and(Value::is_null);
-    if is_test { 0 } else { 1 }
+    if told.is_test { 0 } else { 1 }
 }
 
 /// Prints the line of a fault of the input. Gives the status.

@@ -1,2 +1,3 @@
 pub mod StatementData
 pub mod Told
+pub mod Line

@@ -164,6 +164,20 @@ fn put_printed<W: Write>(
     place
 }
 
+/// Puts an outcome and its example for each entry of a report, on the thread that calls.
+pub fn put_all<W: Write>(
+    buffer: &mut Buffer,
+    output: &mut Counted<W>,
+    plan: &Plan<'_>,
+    found: &Found,
+)
+    requires report { IsReport plan.now (in_range 0 (length (choices_of plan.now))) found.now }
+    ensures { HasPutOn W.contents output.old output.new buffer.old buffer.new
+        (flat_map (entry_text plan.now) found.now.entries) }
+{
+    put_entries(buffer, output, plan, found, 0, found.len());
+}
+
 /// Puts an outcome and its example for each entry of a report, page by page if there are pages.
 pub fn put_pages<T: Threads + Sync, W: Write>(
     rt: &T,
@@ -179,7 +193,7 @@ pub fn put_pages<T: Threads + Sync, W: Write>(
         (flat_map (entry_text plan.now) found.now.entries) }
 {
     if pages.is_empty() {
-        put_entries(buffer, output, plan, found, 0, found.len());
+        put_all(buffer, output, plan, found);
         return;
     }
     let mut place = 0;

@@ -52,6 +52,11 @@ def places(name):
     return TOP / "libexec" / name, TOP / "crates" / CRATES[name] / "out" / CRATES[name]
 
 
+def is_fresh(made):
+    """Whether a program of this repository is there, proved and built, and is that of the sources."""
+    return subprocess.run([TOP / "tools" / "build-program", "--fresh", made]).returncode == 0
+
+
 def own(name):
     """A program of this repository, proved and built first where that is due: so it isn't asked anew before each run."""
     installed, made = places(name)

@@ -11,7 +11,7 @@ from web.markdown import linked, rendered
 NAMES = {"README.md": "README", "docs/TUTORIAL.md": "Tutorial", "docs/FORMAT.md": "The litmus text", "docs/JAVASCRIPT.md": "JavaScript",
          "docs/MODEL.md": "The memory model", "docs/GLOSSARY.md": "Glossary", "litmus/README.md": "The tests of the library",
          "CHANGELOG.md": "Changes", "docs/COMMANDS.md": "The commands", "CONTRIBUTING.md": "Working here",
-         "docs/ARCHITECTURE.md": "Architecture", "docs/DECISIONS.md": "Decisions",
+         "docs/ARCHITECTURE.md": "Architecture", "docs/DECISIONS.md": "Decisions", "docs/HEADLINE.md": "The headline",
          "shared/python/web/README.md": "The page", "shared/javascript/README.md": "Beside engines"}
 IN_EACH = 7  # of these are linked from each document
 PICTURES = {".svg": "image/svg+xml", ".png": "image/png"}

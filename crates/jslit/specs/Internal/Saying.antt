@@ -2,18 +2,11 @@
 use Rattle.std.specs.Prelude.{◌≡◌, ◌≢◌, ◌⊎◌, ◌<◌, Option, List, ℕ}
 use Rattle.clap.specs.declared.error.kind.ErrorKind.{ErrorKind}
 use Rattle.clap.specs.declared.error.kind.ErrorKind.TheVariants as kinds
-use Rattle.std.specs.Io.KnownBytes.{Appends}
 use Rattle.lit_print.specs.declared.counted.Counted.{Counted}
 use Rattle.jslit.specs.declared.fault.RunFault.{RunFault}
 use Rattle.jslit.specs.Answer.{status_of}
 use Rattle.lit_print.specs.Counted.{device_of, failures_of}
-use Rattle.lit_print.specs.Writing.{AppendsBeginning}
-use Rattle.jslit.specs.RefusalText.{refusal_line}
-
--- known bytes grew by the line of a refusal, and where a write failed, by a beginning of it
-pub record HasSaid (fault : RunFault) (old new : Option (List ℕ)) (failed : Type 0) : Type 0 where
-  pub written : ¬ failed → Appends old new (refusal_line fault)
-  pub begun : failed → AppendsBeginning old new (refusal_line fault)
+use Rattle.jslit.specs.RunAnswer.{HasSaid}
 
 -- The status is that of the fault. The output took the line of a refusal, and else nothing.
 pub record IsSaid {W : Type 0} (contents : W → Option (List ℕ)) (status : ℕ) (old new : Counted W) (fault : RunFault) : Type 0 where

@@ -10,17 +10,16 @@ ghost use Rattle.lit_print.specs.Writing.{AppendsBeginning, HasPutOn};
 ghost use Rattle.jslit.specs.ReportText.{class_text, quick_text, report_text, verdict_text, yes_or_no};
 ghost use Rattle.jslit.specs.Internal.FirstEntry.{IsOnlyEntry, entry_of_option};
 
+use crate::engine::printing::Printer;
 use crate::fault::RunFault;
 use crate::report::finish;
 use crate::verdict::Verdict;
-use lit_pages::{Page, put_pages};
 use lit_paths::Plan;
 use lit_print::{Buffer, Counted, EntryCache, put_entry};
 use lit_search::Found;
 use lit_syntax::Test;
 use std::alloc::Global;
 use std::io::Write;
-use std::thread::Threads;
 
 /// Puts the first line of a report.
 pub(crate) fn put_head<W: Write>(buffer: &mut Buffer, output: &mut Counted<W>, test: &Test)
@@ -59,18 +58,17 @@ fn put_race<W: Write>(buffer: &mut Buffer, output: &mut Counted<W>, race: bool)
     buffer.put_byte(output, b'\n');
 }
 
-/// Writes a test's report, its entries page by page if there are pages. Its buffers are large, so the function is not inlined into its
-/// caller's frame.
+/// Writes a test's report. Its buffers are large, so the function is not inlined into its caller's frame.
 #[inline(never)]
-pub(crate) fn write_report<T: Threads + Sync, W: Write>(
-    rt: &T,
+pub(crate) fn write_report<P: Printer, W: Write>(
     alloc: Global,
     output: &mut Counted<W>,
     plan: &Plan<'_>,
     found: &Found,
     verdict: Verdict,
-    pages: &mut [Page],
+    printer: &mut P,
 ) -> Result<(), RunFault>
+    requires ready { P.ready printer.old }
     requires report { IsReport plan.now (in_range 0 (length (choices_of plan.now))) found.now }
     ensures written { OnOk result
         (Appends (W.contents (device_of output.old)) (W.contents (device_of output.new)) (report_text plan.now found.now verdict)) }
@@ -83,7 +81,7 @@ pub(crate) fn write_report<T: Threads + Sync, W: Write>(
 {
     let mut buffer = Buffer::new();
     put_head(&mut buffer, output, plan.test());
-    put_pages(rt, alloc, &mut buffer, output, plan, found, pages);
+    printer.put(alloc, &mut buffer, output, plan, found);
     buffer.put(output, b"outcomes ");
     buffer.put_number(output, found.len() as u64);
     buffer.put_byte(output, b'\n');

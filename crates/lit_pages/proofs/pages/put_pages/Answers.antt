@@ -5,9 +5,6 @@ use Rattle.lit_pages.proofs.PageTexts.{page_none, page_whole, pages_joined}
 use Rattle.lit_print.proofs.Putting.{HasPut-is, HasPut-nothing, HasPut-then}
 use Rattle.lit_pages.proofs.pages.put_pages.Goals as goal
 
-pub returns-then-is_empty : goal.returns-then-is_empty
-returns-then-is_empty g c = HasPut-is _ _ _ _ c.put_entries.ensures (page_whole c.args.plan.now c.args.found.now c.len.result c.len.ensures)
-
 pub loop-place-init : goal.loop-place-init
 loop-place-init g c = record {
   known = omega arith;
@@ -33,4 +30,4 @@ loop-place-preserved g c =
 
 pub returns : goal.returns
 returns g c = HasPut-is _ _ _ _ c.loop-place.invariant.so_far
-    (page_whole c.args.plan.now c.args.found.now c.loop-place.place (omega (arith, c.loop-place.invariant.known, c.loop-place-test.false, c.len-in-loop-place.ensures)))
+    (page_whole c.args.plan.now c.args.found.now c.loop-place.place (omega (arith, c.loop-place.invariant.known, c.loop-place-test.false, c.len.ensures)))

@@ -2,7 +2,7 @@ use Rattle.std.proofs.Common.{◌≡◌}
 use Rattle.lit_print.specs.Counted.{device_of}
 use Rattle.jslit.proofs.TestAnswers.{begun_on, reported_on}
 use Rattle.jslit.proofs.Refusals.{not_refused, unwritten_on, writing_of, writing_on}
-use Rattle.jslit.proofs.engine.answering.answer.Goals as goal
+use Rattle.jslit.proofs.engine.workers.answer.Goals as goal
 
 pub returns-clause-reported : goal.returns-clause-reported
 returns-clause-reported g c =

@@ -1,0 +1,27 @@
+use Rattle.std.proofs.Common.{Bool, OnOk, IsErrOf, sym, subst}
+use Rattle.jslit.specs.declared.fault.RunFault.TheVariants.{OutputFailed}
+use Rattle.lit_print.specs.Counted.{device_of}
+use Rattle.jslit.specs.Internal.Answering.{HasWritten, HasWrittenSome}
+use Rattle.jslit.proofs.engine.workers.asked_report.Goals as goal
+
+pub returns-then-options-clause-written : goal.returns-then-options-clause-written
+returns-then-options-clause-written g c =
+    subst (λ (b : Bool). OnOk c.quick_report.result (HasWritten b c.args.plan.now (g.W.Write.contents (device_of c.args.output.now))
+    (g.W.Write.contents (device_of c.quick_report.new.output)))) (sym c.if-options.true) c.quick_report.ensures.written
+
+pub returns-then-options-clause-begun : goal.returns-then-options-clause-begun
+returns-then-options-clause-begun g c =
+    subst (λ (b : Bool). IsErrOf c.quick_report.result OutputFailed → HasWrittenSome b c.args.plan.now
+    (g.W.Write.contents (device_of c.args.output.now))
+    (g.W.Write.contents (device_of c.quick_report.new.output))) (sym c.if-options.true) c.quick_report.ensures.begun
+
+pub returns-clause-written : goal.returns-clause-written
+returns-clause-written g c =
+    subst (λ (b : Bool). OnOk c.report.result (HasWritten b c.args.plan.now (g.W.Write.contents (device_of c.args.output.now))
+    (g.W.Write.contents (device_of c.report.new.output)))) (sym c.if-options.false) c.report.ensures.written
+
+pub returns-clause-begun : goal.returns-clause-begun
+returns-clause-begun g c =
+    subst (λ (b : Bool). IsErrOf c.report.result OutputFailed → HasWrittenSome b c.args.plan.now
+    (g.W.Write.contents (device_of c.args.output.now))
+    (g.W.Write.contents (device_of c.report.new.output))) (sym c.if-options.false) c.report.ensures.begun
