@@ -1,9 +1,9 @@
 -- Completions of a box take what it gives, respect what it forces, and have no source that it prunes.
-use Rattle.lit_solve.proofs.Words.{◌<◌, [], ap, AreEventsIn, AreOfEvents, AreSources, arith, between_by, Box, box_events, byte_reads}
+use Rattle.lit_solve.proofs.Words.{◌<◌, [], ap, AreEventsIn, AreOfEvents, AreSources, arith, between_by, Box, box_events, byte_read_at, byte_reads}
 use Rattle.lit_solve.proofs.Words.{coherent_read_by, Completes, Event, Execution, execution_events, get_or, Given, GivenIn, Grows}
-use Rattle.lit_solve.proofs.Words.{Grows-from, HappensBefore, HappensBeforeIn, HasCoherentReads, HasTearFreeReads, inl, inr, IsBox}
-use Rattle.lit_solve.proofs.Words.{IsBroken, IsCompletion, IsForbidden, IsForbiddenIn, IsForced-grow, IsForcedIn, IsGivenWhole}
-use Rattle.lit_solve.proofs.Words.{IsMemoryOrder, IsPrunable, IsRefuted, Laws, length, LiesIn, List, never_before_itself, not_broken}
+use Rattle.lit_solve.proofs.Words.{Grows-from, HappensBefore, HappensBeforeIn, HasCoherentReads, HasSource, HasTearFreeReads, inl, inr, IsBox}
+use Rattle.lit_solve.proofs.Words.{IsBroken, IsCoherentRead, IsCompletion, IsForbidden, IsForbiddenIn, IsForced-grow, IsForcedIn, IsGivenWhole}
+use Rattle.lit_solve.proofs.Words.{IsMemoryOrder, IsOrderedIn, IsPrunable, IsRefuted, Laws, length, LiesIn, List, never_before_itself, not_broken}
 use Rattle.lit_solve.proofs.Words.{PartModel, ReadsByteFrom, ReadsWholeBy, RefusedBytesMakeFalse, respects_forced, slice_get}
 use Rattle.lit_solve.proofs.Words.{slice_get-get_or, slice_get_within, Some, StandsBefore, StandsBefore-through, subst, sym, triples_below}
 use Rattle.lit_solve.proofs.Words.{ℕ, ◌∙◌, ◌≡◌}
@@ -71,12 +71,30 @@ module _ (box : Box) (x : Execution) (is : IsCompletion box x) where
   abbrev its_order : List ℕ
   its_order = is.valid.ordered.0
 
+  -- what all sources order, it orders too; so some source of each byte read is coherent by that
+  pub coherent_by_order : (before : ℕ → ℕ → Type 0) → ((e d : ℕ) → before e d → IsOrderedIn box e d) → (k : ℕ) → k < length (byte_reads events)
+      → ((w : ℕ) → HasSource box k w → ¬ IsCoherentRead events before (byte_read_at events k).0 (byte_read_at events k).1 w) → ⊥
+  coherent_by_order before within k inside none =
+      let read = byte_read_at events k in
+      let long : k < length x.sources = omega (arith, sourced.one_each, inside) in
+      let w = get_or x.sources k 0 in
+      let takes : slice_get x.sources k ≡ Some w = slice_get-get_or x.sources k 0 long in
+      none w (is.within k w takes)
+      (coherent_read_by events (HappensBefore events x.sources) before
+      (λ e d h. within e d h x.sources (record { sourced = sourced; within = is.within })) read.0 read.1 w
+      (coherent read.0 read.1 w (k, slice_get-get_or (byte_reads events) k (0, 0) inside, takes)))
+
   module _ (laws : Laws) (entered : IsBox box) where
     ordered : IsMemoryOrder events x.sources its_order
     ordered = order_here its_order is.valid.ordered.1
 
     stands : (a d : ℕ) → IsForcedIn box a d → StandsBefore its_order a d
     stands = forced_respected (laws.of_events events) its_order ordered
+
+    pub no_cycle_by_order : (e : ℕ) → IsOrderedIn box e e → ⊥
+    no_cycle_by_order e cycle =
+        never_before_itself its_order ordered.complete.once e
+        (ordered.keeps e e (cycle x.sources (record { sourced = sourced; within = is.within })))
 
     pub whole : ¬ IsBroken (part_of box x.sources)
     whole = not_broken (part_of box x.sources) x completes laws laws.grow laws.stay (record { litmus = entered.litmus; known = entered.known })

@@ -1,17 +1,11 @@
 -- Data races of completions, by what a box gives.
 use Rattle.lit_solve.proofs.Words.{ap, AreCoherentSources, AreSourcesIn, Box, box_events, byte_reads, CanFillFrom, CanRaceIn, Event}
 use Rattle.lit_solve.proofs.Words.{event_at, Execution, execution_events, HappensBefore, HappensBeforeIn, HasDataRace, HasDataRaceOf-wider}
-use Rattle.lit_solve.proofs.Words.{HasSolution, HasSourceOf, inl, inr, IsBox, IsCompletion, IsFilled, IsLeaf, Laws, LieOn, List, MayRaceIn}
+use Rattle.lit_solve.proofs.Words.{HasSolution, HasSourceOf, inl, inr, IsBox, IsCompletion, IsFilled, IsLeaf, IsOrderedIn, Laws, LieOn, List, MayRaceIn}
 use Rattle.lit_solve.proofs.Words.{Race, ReadsFrom, slice_get, Some, subst, sym, WriteOneByte, ℕ, ◌∙◌, ◌≡◌, ◌⊎◌}
 use Rattle.lit_solve.proofs.CompletionLemmas.{events_same}
 use Rattle.lit_solve.proofs.FillLemmas.{before_back, completion_of_filled, filled_by, grows_in, no_cycle_given, order_given, sources_lie, unwritten_true}
 use Rattle.lit_solve.proofs.TogetherLemmas.{on_read, replaced, replaced_fill, replaced_lie, replaced_own}
-
--- what can be filled may be read
-pub can_race_may : (box : Box) → CanRaceIn box → MayRaceIn box
-can_race_may box =
-    HasDataRaceOf-wider (box_events box) (HappensBeforeIn box) (HappensBeforeIn box) (CanFillFrom box) (HasSourceOf box) (λ e d h. h)
-    (λ r w can. record { place = can.place; byte = can.byte; is_read = can.is_read; there = can.lie.within can.place w can.takes })
 
 module _ (box : Box) (laws : Laws) (entered : IsBox box) where
   abbrev events : List Event
@@ -31,6 +25,14 @@ module _ (box : Box) (laws : Laws) (entered : IsBox box) where
         takes = reads.1.2;
         filled = filled_by box x is laws entered r;
       })
+      (subst (λ (es : List Event). HasDataRace es x.sources) (events_same box x is) race)
+
+  -- all that any sources order, its own order
+  pub race_unordered : (x : Execution) → IsCompletion box x → HasDataRace (execution_events box.test x) x.sources → MayRaceIn box
+  race_unordered x is race =
+      HasDataRaceOf-wider events (HappensBefore events x.sources) (IsOrderedIn box) (ReadsFrom events x.sources) (HasSourceOf box)
+      (λ e d ordered. ordered x.sources (sources_lie box x is))
+      (λ r w reads. record { place = reads.1.0; byte = reads.0; is_read = reads.1.1; there = is.within reads.1.0 w reads.1.2 })
       (subst (λ (es : List Event). HasDataRace es x.sources) (events_same box x is) race)
 
   -- ---- in a leaf that has a completion

@@ -26,6 +26,7 @@ pub mod ReadValueLemmas
 pub mod ConditionLemmas
 pub mod LeafLemmas
 pub mod RacingLemmas
+pub mod DisjunctionLemmas
 pub mod LeastLemmas
 pub mod EntryLemmas
 pub mod ObservationLemmas

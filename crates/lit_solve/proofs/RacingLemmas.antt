@@ -1,8 +1,8 @@
--- Possible data races of a frame, byte read by byte read; and a read filled with one source of a byte.
+-- Possible data races by a relation, byte read by byte read; and a read filled with one source of a byte.
 use Rattle.lit_solve.proofs.Words.{◌<◌, ap, AreSourcesIn, arith, Bool, Box, box_events, byte_read_at, byte_reads, ByteRead, CanFill}
-use Rattle.lit_solve.proofs.Words.{CanFillAt, CanFillFrom, CanRaceIn, cases_eq, Event, EventSet, false, Frame, get_or, get_or-set_other}
-use Rattle.lit_solve.proofs.Words.{HappensBeforeIn, HasApartPair, HasDataRaceOf, HasDataRaceOf-iff, HasDataRaceOf-wider, HasEvent}
-use Rattle.lit_solve.proofs.Words.{HasSource, HasSourceOf, Holds, inl, inr, IsExact, IsFilled, length, List, MayHave, MayRaceIn, pair_of}
+use Rattle.lit_solve.proofs.Words.{CanFillAt, CanFillFrom, cases_eq, Event, EventSet, false, get_or, get_or-set_other}
+use Rattle.lit_solve.proofs.Words.{HasApartPair, HasDataRaceOf, HasDataRaceOf-iff, HasEvent}
+use Rattle.lit_solve.proofs.Words.{HasSource, HasSourceOf, inl, inr, IsFilled, length, List, MayHave, pair_of}
 use Rattle.lit_solve.proofs.Words.{RacesAt, RacesIn, refl, same_Some, slice_get, slice_get-get_or, slice_get_within, Some, subst, sym}
 use Rattle.lit_solve.proofs.Words.{true, WritesWith, ℕ, ◌↔◌, ◌∙◌, ◌≡◌, ◌⊎◌}
 use Rattle.lit_solve.proofs.DomainLemmas.{domain_here, pruned_at, pruned_within}
@@ -21,11 +21,8 @@ read_number events k p r same at = same ∙ ap (λ (q : ℕ × ℕ). q.0) (read_
 abbrev pub RacesSomewhere : Box → (before may : ℕ → ℕ → Type 0) → Type 0
 RacesSomewhere box before may = (k : ℕ) × (k < length (byte_reads (box_events box))) × RacesAt box before may k
 
--- ---- a data race by the relation that a frame has
-module _ (box : Box) (frame : Frame) (exact : IsExact box frame) where
-  abbrev before : ℕ → ℕ → Type 0
-  before = Holds frame.happens_before.rows
-
+-- ---- a data race by a relation that orders events
+module _ (box : Box) (before : ℕ → ℕ → Type 0) where
   module _ (reads may : ℕ → ℕ → Type 0)
       (to : (k b r w : ℕ) → slice_get (byte_reads (box_events box)) k ≡ Some (r, b) → r ≡ (byte_read_at (box_events box) k).0 → may k w → reads r w)
       (from : (r w : ℕ) → reads r w → (k : ℕ) × (b : ℕ) × (slice_get (byte_reads (box_events box)) k ≡ Some (r, b)) × may k w) where
@@ -42,28 +39,24 @@ module _ (box : Box) (frame : Frame) (exact : IsExact box frame) where
     place_racing h = grind (arith, read_at, slice_get_within)
 
     race_from : RacesSomewhere box before may ⊎ HasApartPair (box_events box) before (WritesWith (box_events box))
-        → HasDataRaceOf (box_events box) (HappensBeforeIn box) reads
-    race_from h =
-        HasDataRaceOf-wider (box_events box) before (HappensBeforeIn box) reads reads exact.before (λ r w there. there)
-        ((HasDataRaceOf-iff (box_events box) before reads).1 (either h))
+        → HasDataRaceOf (box_events box) before reads
+    race_from h = (HasDataRaceOf-iff (box_events box) before reads).1 (either h)
       where
         either : RacesSomewhere box before may ⊎ HasApartPair (box_events box) before (WritesWith (box_events box))
             → HasApartPair (box_events box) before reads ⊎ HasApartPair (box_events box) before (WritesWith (box_events box))
         either (inl read) = inl (apart_pair_of read)
         either (inr writes) = inr writes
 
-    race_to : HasDataRaceOf (box_events box) (HappensBeforeIn box) reads
+    race_to : HasDataRaceOf (box_events box) before reads
         → RacesSomewhere box before may ⊎ HasApartPair (box_events box) before (WritesWith (box_events box))
-    race_to h =
-        either ((HasDataRaceOf-iff (box_events box) before reads).0
-        (HasDataRaceOf-wider (box_events box) (HappensBeforeIn box) before reads reads exact.contained.before_in (λ r w there. there) h))
+    race_to h = either ((HasDataRaceOf-iff (box_events box) before reads).0 h)
       where
         either : HasApartPair (box_events box) before reads ⊎ HasApartPair (box_events box) before (WritesWith (box_events box))
             → RacesSomewhere box before may ⊎ HasApartPair (box_events box) before (WritesWith (box_events box))
         either (inl read) = inl (place_racing read)
         either (inr writes) = inr writes
 
-  may_race_iff : MayRaceIn box ↔ (RacesSomewhere box before (HasSource box) ⊎ HasApartPair (box_events box) before (WritesWith (box_events
+  may_race_iff : RacesIn box before false ↔ (RacesSomewhere box before (HasSource box) ⊎ HasApartPair (box_events box) before (WritesWith (box_events
       box)))
   may_race_iff = (race_to (HasSourceOf box) (HasSource box) to from, race_from (HasSourceOf box) (HasSource box) to from)
     where
@@ -74,7 +67,7 @@ module _ (box : Box) (frame : Frame) (exact : IsExact box frame) where
       from : (r w : ℕ) → HasSourceOf box r w → (k : ℕ) × (b : ℕ) × (slice_get (byte_reads (box_events box)) k ≡ Some (r, b)) × HasSource box k w
       from r w h = (h.place, h.byte, h.is_read, h.there)
 
-  can_race_iff : CanRaceIn box ↔ (RacesSomewhere box before (CanFillAt box) ⊎ HasApartPair (box_events box) before (WritesWith (box_events
+  can_race_iff : RacesIn box before true ↔ (RacesSomewhere box before (CanFillAt box) ⊎ HasApartPair (box_events box) before (WritesWith (box_events
       box)))
   can_race_iff = (race_to (CanFillFrom box) (CanFillAt box) to from, race_from (CanFillFrom box) (CanFillAt box) to from)
     where
@@ -103,7 +96,7 @@ module _ (box : Box) (frame : Frame) (exact : IsExact box frame) where
         },
       )
 
-  pub races_iff : (filling : Bool) → RacesIn box filling
+  pub races_iff : (filling : Bool) → RacesIn box before filling
       ↔ (RacesSomewhere box before (MayHave box filling) ⊎ HasApartPair (box_events box) before (WritesWith (box_events box)))
   races_iff true = can_race_iff
   races_iff false = may_race_iff

@@ -102,7 +102,7 @@ module _ (box : Box) (r number : ℕ) where
   abbrev pub IsDecidedBelow : (place : ℕ) → Decided → Type 0
   IsDecidedBelow place (Known true) = (k b w : ℕ) → k < place → slice_get (byte_reads events) k ≡ Some (r, b) → HasSource box k w → StoresIt b w
   IsDecidedBelow place (Known false) = ⊥
-  IsDecidedBelow place (Undecided k) = IsUndecidedAt box k
+  IsDecidedBelow place (Undecided k) = IsUndecidedAt box k × ((byte_read_at events k).0 ≡ r)
 
   module _ (sound : AreEventsIn box.test.bytes (box_events box)) (known : r < length (box_events box)) (reads : does_read (event_at (box_events box) r).kind ≡ true) where
     payload_small : (w b : ℕ) → payload_at (event_at events w) b < 256

@@ -211,7 +211,7 @@ prospect_of_completions laws box entered class Nothing none = λ x is meets.
     none x.sources (sources_lie box x is) (subst (λ (o : List ℕ). IsTrue (is_of_class box.test class o)) (outcome_given laws box x entered is) meets)
 prospect_of_completions laws box entered class Each each = λ x is.
     subst (λ (o : List ℕ). IsTrue (is_of_class box.test class o)) (sym (outcome_given laws box x entered is)) (each x.sources (sources_lie box x is))
-prospect_of_completions laws box entered class (Open k) is_undecided = is_undecided
+prospect_of_completions laws box entered class (Open k) (is_undecided, asked) = is_undecided
 
 -- ---- what is decided of a register
 module _ (laws : Laws) (box : Box) (entered : IsBox box) (agent reg number : ℕ) where
@@ -220,7 +220,15 @@ module _ (laws : Laws) (box : Box) (entered : IsBox box) (agent reg number : ℕ
   decided_by_read r (Known value) observed_is each = λ sources lie.
       ap (λ (n : ℕ). n == number) (register_observed laws box entered sources agent reg ∙ ap (observed_value (part_of box sources)) observed_is)
       ∙ each sources lie
-  decided_by_read r (Undecided k) observed_is is_undecided = is_undecided
+  decided_by_read r (Undecided k) observed_is (is_undecided, own) = (
+    is_undecided,
+    record {
+      agent = agent;
+      register = reg;
+      looks = ap₂ (λ (a b : Bool). a && b) (eq-eqb agent agent refl) (eq-eqb reg reg refl);
+      observes = observed_is ∙ ap (λ (q : ℕ). Some q) (sym own);
+    },
+  )
 
   pub decided_unwritten : observed_read box.test box.combination (agent, reg) ≡ None → IsDecided box (Is agent reg true number) (Known (number == 0))
   decided_unwritten observed_is sources lie =

@@ -6,7 +6,7 @@ pub use Rattle.lit_paths.specs.Choice.{AreSources, candidates_of, Choice, choice
 pub use Rattle.lit_paths.specs.Event.{does_read, does_write, event_at, no_event, payload_at}
 pub use Rattle.lit_paths.specs.Execution.{Execution, execution_events, execution_outcome}
 pub use Rattle.lit_paths.specs.Numbers.{AreNumbered, IsBegunBy, length_product, NumbersChoices, ways_from}
-pub use Rattle.lit_paths.specs.Outcome.{holds, names_from, names_in, names_of, value_in}
+pub use Rattle.lit_paths.specs.Outcome.{asks as looks_at, holds, names_from, names_in, names_of, value_in}
 pub use Rattle.lit_paths.specs.Path.{IsStatementWalk, IsWalk, path_on, payload_of, Step}
 pub use Rattle.lit_paths.specs.PathModel.{accesses_of, IsReadAt, last_read, last_read_from, reads_into}
 pub use Rattle.lit_paths.specs.Plan.{AreEventsIn, choices_before, events_in, first_event, HasSources, IsOfCombination, IsWalkIn}
@@ -62,7 +62,7 @@ pub use Rattle.lit_solve.specs.Internal.Filling.{TakesWhole, WholeWith, WouldNot
 pub use Rattle.lit_solve.specs.Internal.Frames.{AreCoherentAt, box_of, IsContained, IsExact, IsForbiddenAt, IsProblem, IsSynchronizedAt}
 pub use Rattle.lit_solve.specs.Internal.Independent.{FillsAll, FillsRead, HasLeastOrderIn, IsIndependent, IsLeastFilling}
 pub use Rattle.lit_solve.specs.Internal.Independent.{IsNotGreaterOn, LieOn}
-pub use Rattle.lit_solve.specs.Internal.Leaves.{CanFillAt, MayHave, RacesAt, RacesIn}
+pub use Rattle.lit_solve.specs.Internal.Leaves.{CanFillAt, IsOrderOfBox, MayHave, RacesAt, RacesIn}
 pub use Rattle.lit_solve.specs.Internal.Observation.{AreFirstValues, IsObservation, IsObservedAt, IsValueObserved, part_with}
 pub use Rattle.lit_solve.specs.Internal.Numbering.{digit, digits_below, place_in, share_below}
 pub use Rattle.lit_solve.specs.Internal.Product.{AgreeBeside, AreDistinct, AreOpenReads, AreValuesBeside, ChangesListed, HasEachBeside}
@@ -73,7 +73,7 @@ pub use Rattle.lit_solve.specs.Internal.Searching.{GoesWith, IsBranch}
 pub use Rattle.lit_solve.specs.Internal.Settled.{IsCut, IsSettled, IsSettledBelow, TakesFrom}
 pub use Rattle.lit_solve.specs.Internal.SoundRange.{IsSoundRange}
 pub use Rattle.lit_solve.specs.Outcomes.{AddsEntries, AreNewEntries, HasEachOutcome, IsLeastEntry}
-pub use Rattle.lit_solve.specs.Prospect.{IsOutcomeProspect, IsUndecidedAt, IsValueOf, outcome_by}
+pub use Rattle.lit_solve.specs.Prospect.{IsAskedAt, IsOutcomeProspect, IsUndecidedAt, IsValueOf, outcome_by}
 pub use Rattle.lit_solve.specs.Prunable.{IsPrunable, IsRefusedOn, IsRefuted}
 pub use Rattle.lit_solve.specs.declared.condition_values.Decided.{Decided}
 pub use Rattle.lit_solve.specs.declared.filling.Taken.{Taken}
@@ -89,7 +89,7 @@ pub use Rattle.lit_order.proofs.GrownLemmas.{least_of_forced, none_of_forced}
 pub use Rattle.lit_order.proofs.PartLemmas.{triples_below}
 pub use Rattle.lit_order.proofs.SameOrders.{IsLeastOrderOf-same, IsOrderOf-same}
 pub use Rattle.lit_order.proofs.StandingLemmas.{never_before_itself, StandsBefore-through}
-pub use Rattle.lit_paths.proofs.Conditions.{holds-All, holds-Any, member_holds}
+pub use Rattle.lit_paths.proofs.Conditions.{asks-All, asks-Any, holds-All, holds-Any, member_asks, member_holds}
 pub use Rattle.lit_paths.proofs.PlanFacts.{lists-candidates}
 pub use Rattle.lit_paths.proofs.OutcomeRegisterSteps.{names_from-within}
 pub use Rattle.lit_paths.proofs.Products.{product-known, slice_get-drop}
@@ -108,7 +108,7 @@ pub use Rattle.lit_rel.proofs.ReadingLemmas.{write_known}
 pub use Rattle.lit_rel.proofs.SameRelations.{between_by, coherent_read_by}
 pub use Rattle.lit_rel.proofs.SetLemmas.{event_or_not, split_less, split_less_yet, within_le}
 pub use Rattle.lit_rel.proofs.ValueLemmas.{length-stored, stored}
-pub use Rattle.lit_solve.specs.DataRace.{CanFillFrom, CanRaceIn, HasSourceOf, MayRaceIn}
+pub use Rattle.lit_solve.specs.DataRace.{CanFillFrom, CanRaceIn, HasSourceOf, IsOrderedIn, MayRaceIn}
 pub use Rattle.lit_solve.specs.declared.observation.ReadValue.{ReadValue}
 pub use Rattle.lit_solve.specs.declared.goal.Prospect.{Prospect}
 pub use Rattle.lit_valid.proofs.CompletionLemmas.{example, example_paths, example_valid, its_outcome, not_broken}

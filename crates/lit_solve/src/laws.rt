@@ -89,12 +89,13 @@ pub fn reads_are_filled_together()
     laws_below();
 }
 
-/// The possible data races of a box over-approximate those of its completions: first where a read may read from each source with which it
-/// can be filled, and so also where it may read from each source in the domains of its bytes.
+/// The possible data races of a box over-approximate those of its completions: where a read may read from each source with which it can be
+/// filled, by what is given; and where it may read from each source in the domains of its bytes, by what all sources order.
 pub fn boxes_bound_races()
     ensures filled { (box : Box) (x : Execution) → IsBox box → IsCompletion box x
         → HasDataRace (execution_events box.test x) x.sources → CanRaceIn box }
-    ensures may { (box : Box) → CanRaceIn box → MayRaceIn box }
+    ensures may { (box : Box) (x : Execution) → IsBox box → IsCompletion box x
+        → HasDataRace (execution_events box.test x) x.sources → MayRaceIn box }
 {
     laws_below();
 }

@@ -8,8 +8,9 @@ ghost use Rattle.lit_rel.specs.Rows.{Holds};
 ghost use Rattle.lit_solve.specs.Box.{HasEmptyDomain, HasSource, IsBox, box_with, events_on};
 ghost use Rattle.lit_solve.specs.Completion.{HasSolution};
 ghost use Rattle.lit_solve.specs.Fill.{CanFill, IsLeaf};
+ghost use Rattle.lit_solve.specs.DataRace.{MayRaceIn};
 ghost use Rattle.lit_solve.specs.declared.goal.Goal.TheVariants.{Any};
-ghost use Rattle.lit_solve.specs.Internal.Frames.{IsContained, IsExact, box_of};
+ghost use Rattle.lit_solve.specs.Internal.Frames.{IsContained, box_of};
 ghost use Rattle.lit_solve.specs.Internal.Independent.{HasLeastOrderIn, IsIndependent};
 ghost use Rattle.lit_solve.specs.Internal.Leaves.{MayHave, RacesAt, RacesIn};
 ghost use Rattle.lit_solve.specs.Internal.Pruning.{HasNoCompletion};
@@ -20,7 +21,7 @@ use crate::frame::Frame;
 use crate::laws::{leaves_are_filled_read_by_read, reads_are_filled_together};
 use crate::problem::Problem;
 use lit_order::Order;
-use lit_rel::{are_apart, has_racing_writes};
+use lit_rel::{Rows, are_apart, has_racing_writes};
 
 impl Problem<'_> {
     /// Whether each event can be filled. One that does not read has no byte to fill.
@@ -67,21 +68,20 @@ impl Problem<'_> {
         self.leaf_order(frame).is_some()
     }
 
-    /// Whether two events are in a data race where both write a byte or one reads from the other, by a frame's happens-before.
-    fn are_apart(&self, frame: &Frame, first: usize, second: usize) -> bool
+    /// Whether two events are in a data race where both write a byte or one reads from the other, by a relation that orders events.
+    fn are_apart(&self, before: &Rows, first: usize, second: usize) -> bool
         requires first { first < length (events_on self.now) }
         requires second { second < length (events_on self.now) }
-        ensures { IsTrue result ↔ AreApart (events_on self.now) (Holds frame.now.happens_before.rows) first second }
+        ensures { IsTrue result ↔ AreApart (events_on self.now) (Holds before.now) first second }
     {
-        are_apart(self.events(), &frame.happens_before.rows, first, second)
+        are_apart(self.events(), before, first, second)
     }
 
-    /// Whether two events that write a byte are in a data race.
-    fn has_racing_writes(&self, frame: &Frame) -> bool
-        ensures { IsTrue result
-            ↔ HasApartPair (events_on self.now) (Holds frame.now.happens_before.rows) (WritesWith (events_on self.now)) }
+    /// Whether two events that write a byte are in a data race, by a relation that orders events.
+    fn has_racing_writes(&self, before: &Rows) -> bool
+        ensures { IsTrue result ↔ HasApartPair (events_on self.now) (Holds before.now) (WritesWith (events_on self.now)) }
     {
-        has_racing_writes(self.events(), &frame.happens_before.rows)
+        has_racing_writes(self.events(), before)
     }
 
     /// Whether the read at a place may have this source of the domain there. With `filling`, only if it can be filled with it.
@@ -103,19 +103,21 @@ impl Problem<'_> {
         self.can_fill(&alone, read)
     }
 
-    /// Whether the read at a place is in a data race with a source that it may have there.
-    fn races_at(&self, frame: &Frame, place: usize, filling: bool) -> bool
+    /// Whether the read at a place is in a data race with a source that it may have there, by a relation that orders events.
+    fn races_at(&self, frame: &Frame, before: &Rows, place: usize, filling: bool) -> bool
         requires place { place < length (byte_reads (events_on self.now)) }
         requires contained { IsContained (box_of self.now frame.now) frame.now }
-        ensures { IsTrue result ↔ RacesAt (box_of self.now frame.now) (Holds frame.now.happens_before.rows)
-            (MayHave (box_of self.now frame.now) filling) place }
+        ensures { IsTrue result ↔ RacesAt (box_of self.now frame.now) (Holds before.now) (MayHave (box_of self.now frame.now) filling)
+            place }
     {
         // For the prover: the place is one of the array of domains.
         let _reads = self.reads();
         let read = usize::from(self.byte_read(place).read);
         let mut left = frame.domains[place];
         while let Some((source, others)) = left.split_first() {
-            if self.are_apart(frame, read, source) && self.may_have(frame, place, source, filling) {
+            if self.are_apart(before, read, source)
+                && self.may_have(frame, place, source, filling)
+            {
                 return true;
             }
             left = others;
@@ -123,17 +125,32 @@ impl Problem<'_> {
         false
     }
 
-    /// Whether a frame has a possible data race: of two writes, or of a read and a source in the domain of its byte. With `filling`, only
-    /// of a source with which the read can be filled there.
-    pub(crate) fn races(&self, frame: &Frame, filling: bool) -> bool
-        requires { IsExact (box_of self.now frame.now) frame.now }
-        ensures { IsTrue result ↔ RacesIn (box_of self.now frame.now) filling }
+    /// Whether a frame has a possible data race, by a relation that orders events: of two writes, or of a read and a source in the domain
+    /// of its byte. With `filling`, only of a source with which the read can be filled there.
+    pub(crate) fn races(&self, frame: &Frame, before: &Rows, filling: bool) -> bool
+        requires { IsContained (box_of self.now frame.now) frame.now }
+        ensures { IsTrue result ↔ RacesIn (box_of self.now frame.now) (Holds before.now) filling }
     {
         for place in 0..self.reads() {
-            if self.races_at(frame, place, filling) {
+            if self.races_at(frame, before, place, filling) {
                 return true;
             }
         }
-        self.has_racing_writes(frame)
+        self.has_racing_writes(before)
+    }
+
+    /// Whether a frame may have a data race, by what all sources in its domains order. It is mostly enough to ask what those that are
+    /// given order.
+    pub(crate) fn may_race(&self, frame: &Frame) -> bool
+        requires { IsContained (box_of self.now frame.now) frame.now }
+        ensures { MayRaceIn (box_of self.now frame.now) → IsTrue result }
+    {
+        if !self.races(frame, &frame.happens_before.rows, false) {
+            return false;
+        }
+        match self.ordered(frame) {
+            Some(ordered) => self.races(frame, &ordered.rows, false),
+            None => true,
+        }
     }
 }

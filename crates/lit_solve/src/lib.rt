@@ -9,6 +9,7 @@ mod branching;
 mod collection;
 mod condition_values;
 mod descending;
+mod disjunction;
 mod domains;
 mod effect;
 mod filling;

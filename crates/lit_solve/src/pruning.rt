@@ -6,7 +6,7 @@ ghost use Rattle.lit_paths.specs.Event.{event_at as event_of};
 ghost use Rattle.lit_rel.specs.Coherent.{IsCoherentRead};
 ghost use Rattle.lit_rel.specs.EventSet.{HasEvent};
 ghost use Rattle.lit_rel.specs.Forbidden.{IsForbiddenBetween};
-ghost use Rattle.lit_rel.specs.Rows.{Holds};
+ghost use Rattle.lit_rel.specs.Rows.{Holds, rows_len};
 ghost use Rattle.lit_rel.specs.SynchronizesWith.{CanSynchronize};
 ghost use Rattle.lit_rel.specs.TearFree.{CanReadWhole, ReadsWholeBy};
 ghost use Rattle.lit_solve.specs.Box.{HasSource, events_on};
@@ -21,20 +21,19 @@ use crate::frame::Frame;
 use crate::laws::completions_have_no_prunable_source;
 use crate::problem::Problem;
 use lit_paths::event_at;
-use lit_rel::{EventSet, can_read_whole};
+use lit_rel::{EventSet, TwoWayRows, can_read_whole};
 
 impl Problem<'_> {
-    /// Whether the byte read at a place is coherent (29.7.2) with a source, by a frame's happens-before, which is acyclic.
-    fn is_coherent(&self, frame: &Frame, place: usize, source: usize) -> bool
+    /// Whether the byte read at a place is coherent (29.7.2) with a source, by an acyclic relation that orders the events.
+    pub(crate) fn is_coherent(&self, before: &TwoWayRows, place: usize, source: usize) -> bool
         requires place { place < length (byte_reads (events_on self.now)) }
-        requires contained { IsContained (box_of self.now frame.now) frame.now }
+        requires len { rows_len before.now.rows ≡ length (events_on self.now) }
         requires source { source < length (events_on self.now) }
-        requires acyclic { (e : ℕ) → ¬ Holds frame.now.happens_before.rows e e }
-        ensures { IsTrue result ↔ IsCoherentRead (events_on self.now) (Holds frame.now.happens_before.rows)
-            (byte_read_at (events_on self.now) place).0 (byte_read_at (events_on self.now) place).1 source }
+        requires acyclic { (e : ℕ) → ¬ Holds before.now.rows e e }
+        ensures { IsTrue result ↔ IsCoherentRead (events_on self.now) (Holds before.now.rows) (byte_read_at (events_on self.now) place).0
+            (byte_read_at (events_on self.now) place).1 source }
     {
         let read = usize::from(self.byte_read(place).read);
-        let before = &frame.happens_before;
         let between = before
             .rows
             .successors(source)
@@ -140,7 +139,7 @@ impl Problem<'_> {
             (byte_read_at (events_on self.now) place).0 (byte_read_at (events_on self.now) place).1 source }
     {
         let read = usize::from(self.byte_read(place).read);
-        !self.is_coherent(frame, place, source)
+        !self.is_coherent(&frame.happens_before, place, source)
             || self.is_forced_later(frame, read, source)
             || self.is_forced_between(frame, read, source)
             || self.would_tear(read, source, whole)
@@ -163,7 +162,7 @@ impl Problem<'_> {
         // A given source is only asked for coherence. It can't be forced later than its read, nor an event that may not stand between
         // the two be forced there, since what is forced has no cycle; and whether the read is torn, its filling tells.
         if let Some(given) = self.given(frame, place) {
-            if self.is_coherent(frame, place, given) {
+            if self.is_coherent(&frame.happens_before, place, given) {
                 return frame.domains[place];
             }
         }

@@ -26,7 +26,9 @@ impl Problem<'_> {
         leaves_race_as_reads_are_filled();
         match goal {
             Goal::Any | Goal::OfClass(_) => self.has_completion(frame),
-            Goal::Race => self.has_completion(frame) && self.races(frame, true),
+            Goal::Race => {
+                self.has_completion(frame) && self.races(frame, &frame.happens_before.rows, true)
+            }
         }
     }
 

@@ -50,7 +50,7 @@ impl Problem<'_> {
             Goal::Any => Prospect::Each,
             Goal::OfClass(class) => self.prospect_of(&frame.domains, class),
             Goal::Race => {
-                if self.races(frame, false) {
+                if self.may_race(frame) {
                     Prospect::Each
                 } else {
                     Prospect::Nothing
@@ -64,6 +64,9 @@ impl Problem<'_> {
         requires { IsSettled (box_of self.now frame.now) frame.now }
         ensures { IsStep (box_of self.now frame.now) goal result }
     {
+        if self.is_disordered(frame) {
+            return Step::Refuted;
+        }
         match self.prospect(frame, goal) {
             Prospect::Nothing => Step::Refuted,
             Prospect::Open(place) => Step::Branched(Branch {

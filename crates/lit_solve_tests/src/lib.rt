@@ -8,4 +8,6 @@ mod listed;
 #[cfg(test)]
 mod outcomes;
 #[cfg(test)]
+mod races;
+#[cfg(test)]
 mod solver;

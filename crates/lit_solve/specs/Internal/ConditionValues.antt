@@ -17,7 +17,7 @@ use Rattle.lit_solve.specs.Box.{Box, HasSource, box_events}
 use Rattle.lit_solve.specs.Completion.{IsCompletion}
 use Rattle.lit_solve.specs.Fill.{AreSourcesIn}
 use Rattle.lit_solve.specs.Goal.{Meets}
-use Rattle.lit_solve.specs.Prospect.{IsUndecidedAt, outcome_by}
+use Rattle.lit_solve.specs.Prospect.{IsAskedAt, IsUndecidedAt, outcome_by}
 
 -- the byte that event w stores for the k-th byte read
 abbrev pub stored_for : Box → (k w : ℕ) → ℕ
@@ -28,19 +28,19 @@ abbrev pub IsByteDecided : Box → (k byte : ℕ) → Decided → Type 0
 IsByteDecided box k byte (Known value) = (w : ℕ) → HasSource box k w → (stored_for box k w == byte) ≡ value
 IsByteDecided box k byte (Undecided at) = (at ≡ k) × IsUndecidedAt box k
 
--- read r has this number by any sources that lie in the box, or by none; or that depends on a byte read whose sources store several
--- bytes
+-- read r has this number by any sources that lie in the box, or by none; or that depends on one of its byte reads, whose sources store
+-- several bytes
 abbrev pub IsReadDecided : Box → (r number : ℕ) → Decided → Type 0
 IsReadDecided box r number (Known value) =
     (sources : List ℕ) → AreSourcesIn box sources → (value_of (box_events box) sources r == number) ≡ value
-IsReadDecided box r number (Undecided k) = IsUndecidedAt box k
+IsReadDecided box r number (Undecided k) = IsUndecidedAt box k × ((byte_read_at (box_events box) k).0 ≡ r)
 
 -- the condition has a value with the outcome by any sources that lie in the box, or it depends on a byte read whose sources store
--- several bytes
+-- several bytes, and whose read it asks for
 abbrev pub IsDecided : Box → Condition → Decided → Type 0
 IsDecided box condition (Known value) =
     (sources : List ℕ) → AreSourcesIn box sources → holds (zip (names_of box.test) (outcome_by box sources)) condition ≡ value
-IsDecided box condition (Undecided k) = IsUndecidedAt box k
+IsDecided box condition (Undecided k) = IsUndecidedAt box k × IsAskedAt box condition k
 
 -- the execution meets the goal as far as its outcome goes; this says nothing of data races
 abbrev pub MeetsByOutcome : Litmus → Goal → Execution → Type 0

@@ -7,7 +7,7 @@ use Rattle.lit_solve.proofs.problem.Problem.is_coherent.Goals as goal
 pub returns-then-not-holds : goal.returns-then-not-holds
 returns-then-not-holds c =
     let events = events_on c.args.self.now in
-    let order = c.args.frame.now.happens_before in
+    let order = c.args.before.now in
     let read = c.from-read.result in
     let byte = c.byte_read.result.byte in
     let p = c.self.inside in
@@ -33,10 +33,10 @@ returns-then-not-holds c =
     ∙ c.byte_read.ensures.is in
     let not_later : ¬ Holds order.rows read c.args.source = λ later. false≢true (sym c.if-not-holds.true ∙ c.holds.ensures.1 later) in
     subst (λ (q : ℕ × ℕ). IsTrue c.is_empty.result ↔ IsCoherentRead events (Holds order.rows) q.0 q.1 c.args.source) is_read (
-      (λ empty. coherent_if_none events order.rows c.requires.contained.before_len read byte c.args.source c.intersection.result both c.requires.acyclic
+      (λ empty. coherent_if_none events order.rows c.requires.len read byte c.args.source c.intersection.result both c.requires.acyclic
           not_later (c.is_empty.ensures.0 empty)),
       (λ coherent. c.is_empty.ensures.1
-          (none_if_coherent events order.rows c.requires.contained.before_len read byte c.args.source c.intersection.result both coherent)),
+          (none_if_coherent events order.rows c.requires.len read byte c.args.source c.intersection.result both coherent)),
     )
 
 never : (b : Bool) → b ≡ true → IsTrue (not b) → ⊥

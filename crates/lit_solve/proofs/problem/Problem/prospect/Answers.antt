@@ -8,10 +8,9 @@ returns-in-OfClass c =
     subst (λ (g : Goal). IsProspect box g c.prospect_of.result) (sym c.in-OfClass.is)
     (prospect_of_completions c.laws_below.ensures box c.requires.exact.contained.is_box c.in-OfClass.class c.prospect_of.result c.prospect_of.ensures)
 
-pub returns-else-races : goal.returns-else-races
-returns-else-races c x is meets =
+pub returns-else-may_race : goal.returns-else-may_race
+returns-else-may_race c x is meets =
     let box = box_of c.args.self.now c.args.frame.now in
     let race = subst (λ (g : Goal). Meets box.test g x) c.in-Race.is meets in
-    false≢true (sym c.if-races.false
-    ∙ c.races.ensures.1
-    (c.boxes_bound_races.ensures.may box (c.boxes_bound_races.ensures.filled box x c.requires.exact.contained.is_box is race)))
+    false≢true (sym c.if-may_race.false
+    ∙ c.may_race.ensures (c.boxes_bound_races.ensures.may box x c.requires.exact.contained.is_box is race))

@@ -6,7 +6,7 @@ invariant-loop-source l = record {
   left : (w : ℕ) → HasEvent l.left w → HasSource (box_of l.self l.frame) l.place w;
   in_vain : (w : ℕ) → HasSource (box_of l.self l.frame) l.place w → ¬ HasEvent l.left w
       → ¬ (MayHave (box_of l.self l.frame) l.filling l.place w
-      × AreApart (events_on l.self) (Holds l.frame.happens_before.rows) (byte_read_at (events_on l.self) l.place).0 w);
+      × AreApart (events_on l.self) (Holds l.before) (byte_read_at (events_on l.self) l.place).0 w);
 }
 
 abbrev pub decreases-loop-source : goal.decreases-loop-source

@@ -1,4 +1,4 @@
-use Rattle.lit_solve.proofs.Words.{◌+◌, ◌<◌, ◌^◌, ap, arith, Bool, Box, box_with, byte_reads, ByteRead, cases_lt, common_steps, Decided}
+use Rattle.lit_solve.proofs.Words.{◌+◌, ◌<◌, ◌^◌, ap, arith, Bool, Box, box_with, byte_read_at, byte_reads, ByteRead, cases_lt, common_steps, Decided}
 use Rattle.lit_solve.proofs.Words.{Event, event_at, events_on, false≢true, inl, inr, IsByteDecided, IsUndecidedAt, List, pair_of}
 use Rattle.lit_solve.proofs.Words.{slice_get, Some, subst, sym, ℕ, ◌∙◌, ◌≡◌, ◌≤◌}
 use Rattle.lit_solve.specs.declared.condition_values.Decided.TheVariants.{Known}
@@ -89,7 +89,10 @@ loop-place-preserved c =
           (next (inr (decided_on box place byte comes w.byte_is.ensures)) c.loop-place.invariant)
       | then-from-read+in-Undecided w ↦
           subst (IsDecidedBelow box c.args.read c.args.value (place + 1)) (sym w.decided-is)
-          (subst (IsUndecidedAt box) (sym w.in-Undecided.ensures.0) w.in-Undecided.ensures.1)
+          (subst (λ (k : ℕ). IsUndecidedAt box k × ((byte_read_at (events_on p) k).0 ≡ c.args.read)) (sym w.in-Undecided.ensures.0) (
+            w.in-Undecided.ensures.1,
+            ap (λ (q : ℕ × ℕ). q.0) (sym c.byte_read-at.ensures.is) ∙ sym c.from.ensures ∙ w.if-from-read.true,
+          ))
       | else-from-read w ↦
           subst (IsDecidedBelow box c.args.read c.args.value (place + 1)) (sym w.decided-is)
           (next (inl (λ same. w.if-from-read.false (c.from.ensures ∙ same))) c.loop-place.invariant)

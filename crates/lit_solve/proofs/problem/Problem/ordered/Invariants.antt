@@ -1,0 +1,5 @@
+use Rattle.lit_solve.proofs.Words.{box_of, IsOrderOfBox}
+use Rattle.lit_solve.proofs.problem.Problem.ordered.Given as goal
+
+abbrev pub invariant-loop-pass : goal.invariant-loop-pass
+invariant-loop-pass l = IsOrderOfBox (box_of l.self l.frame) l.ordered.rows
