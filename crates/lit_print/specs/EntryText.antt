@@ -40,6 +40,10 @@ abbrev pub from_lines : Litmus → List Event → List ℕ → List ℕ
 from_lines t events sources =
     flat_map (λ read. source_line t events (event_at events read) (sources_of_read events sources read)) (read_numbers events)
 
+-- the lines of the reads of choice n
+abbrev pub choice_lines : Litmus → ℕ → List ℕ
+choice_lines t n = from_lines t (choice_events t (choice_at t n)) (choice_at t n).sources
+
 -- a register of an outcome with its value
 abbrev pub register_text : Litmus → (ℕ × ℕ) × ℕ → List ℕ
 register_text t p = codes " " ++ (agent_of t p.0.0).name ++ codes ".r" ++ decimal p.0.1 ++ codes "=" ++ decimal p.1

@@ -7,6 +7,7 @@
 
 mod buffer;
 mod cached_text;
+mod choice_lines;
 mod choice_sources;
 mod counted;
 mod digits;
@@ -18,6 +19,7 @@ mod source_lines;
 mod text;
 
 pub use buffer::Buffer;
+pub use choice_lines::put_choice_lines;
 pub use counted::Counted;
 pub use entry_cache::{EntryCache, put_entry};
 pub use fault::OutputFailed;

@@ -1,5 +1,5 @@
 -- What an answer to a question, or the lack of one, says of the text (this project's own).
-use Rattle.std.specs.Prelude.{◌≡◌, ◌≤◌, Bool, true, Option, None, ℕ, List, nat_lt, length}
+use Rattle.std.specs.Prelude.{◌≡◌, ◌≤◌, Bool, true, false, None, ℕ, List, nat_lt, length}
 use Rattle.lit_syntax.specs.Syntax.{Litmus}
 use Rattle.lit_read.specs.Faults.{IsFirstFault}
 use Rattle.lit_read.specs.Spelling.{Spells}
@@ -7,6 +7,7 @@ use Rattle.lit_paths.specs.Choice.{combinations_of, choices_of}
 use Rattle.lit_paths.specs.declared.limits.TheConstants.{COMBINATION_LIMIT, CHOICE_LIMIT}
 use Rattle.lit_paths.specs.Plan.{HasFewEvents, IsRefusal}
 use Rattle.lit_paths.specs.declared.fault.PlanFault.{PlanFault}
+use Rattle.lit_reason.specs.AnswerText.{IsTextOn}
 use Rattle.lit_reason.specs.declared.explanation.Answer.{Answer}
 use Rattle.lit_reason.specs.declared.fault.ReasonFault.{ReasonFault}
 use Rattle.lit_reason.specs.declared.fault.ReasonFault.TheVariants as faults
@@ -25,12 +26,13 @@ IsFoundOn t (OfSources words) found = Unit {0}
 abbrev pub IsWithinLimits : Litmus → Type 0
 IsWithinLimits t = HasFewEvents t × (length (combinations_of t) ≤ COMBINATION_LIMIT) × (length (choices_of t) ≤ CHOICE_LIMIT)
 
--- The text spells a test. Where no other condition is asked about, it isn't refused, and `found` is true of it.
+-- The text spells a test. Where no other condition is asked about, it isn't refused, `found` is true of it, and so is an answer in words.
 pub record HasAnswerOn (text : List ℕ) (asked : Asked) (answer : Answer) : Type 0 where
   pub test : Litmus
   pub spelled : Spells text test
   pub planned : asked.condition ≡ None → IsWithinLimits test
   pub found : asked.condition ≡ None → IsFoundOn test asked.question answer.found
+  pub told : asked.condition ≡ None → asked.json ≡ false → IsTextOn test asked.question answer.text.items
 
 -- the text spells a test, and without another condition that test is refused so
 pub record IsPlanRefused (text : List ℕ) (asked : Asked) (fault : PlanFault) : Type 0 where

@@ -1,3 +1,4 @@
+pub mod AnswerText
 pub mod Example
 pub mod Explained
 pub mod Faults

@@ -1,10 +1,9 @@
 //! How many attempts each clause of a valid execution refuses, each by the first of its cases.
 
-ghost use Rattle.std.specs.Prelude.{◌≡◌, ◌<◌, length};
-ghost use Rattle.lit_reason.specs.declared.clauses.TheConstants.{CLAUSE_COUNT as CLAUSES};
+ghost use Rattle.std.specs.Prelude.{◌<◌, length};
 ghost use Rattle.lit_paths.specs.Choice.{choices_of};
 
-use crate::clauses::{CLAUSE_COUNT, place_of};
+use crate::clauses::{CLAUSE_COUNT, Clause};
 use crate::scene::Scene;
 use crate::statements::Statements;
 use lit_paths::Plan;
@@ -19,6 +18,8 @@ const CASE_LIMIT: usize = 100;
 /// An attempt with the first of its cases.
 #[derive(Clone, Copy)]
 pub(crate) struct Told {
+    /// The clause that refuses it, by the first of its cases.
+    pub clause: Clause,
     /// The attempt.
     pub attempt: Attempt,
     /// The first of its cases; none where the attempt is told by its least choice.
@@ -98,10 +99,12 @@ impl Tally {
         let Some(refusal) = refusal else {
             return Ok(());
         };
-        let counted = &mut self.counts[place_of(refusal)];
+        let clause = Clause::of(refusal);
+        let counted = &mut self.counts[clause.place()];
         counted.count = counted.count.saturating_add(1);
         if counted.first.is_none() {
             counted.first = Some(Told {
+                clause,
                 attempt,
                 case,
                 cases: cover.cases.len(),
@@ -127,9 +130,7 @@ impl Tally {
     }
 
     /// The counts, one for each clause.
-    pub(crate) fn counts(&self) -> &[ClauseCount]
-        ensures { length result.now ≡ CLAUSES }
-    {
+    pub(crate) fn counts(&self) -> &[ClauseCount] {
         &self.counts
     }
 }

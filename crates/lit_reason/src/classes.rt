@@ -1,45 +1,63 @@
 //! Why no valid execution has an outcome of a class, or an example where one has.
 
+ghost use Rattle.std.specs.Prelude.{◌≡◌, ◌++◌, IfOk, OnOk, codes};
+ghost use Rattle.lit_reason.specs.AnswerText.{IsClassText, verdict_without as verdict_of};
+
 use crate::attempts::Tally;
-use crate::clauses::clause_at;
 use crate::cores::put_core;
 use crate::example::example_text;
 use crate::reasons::put_reason;
-use crate::scene::Scene;
 use crate::statements::Statements;
 use lit_paths::Plan;
 use lit_search::Class;
 use lit_solve::Goal;
+use lit_why::laws::shown_choices_meet_their_goal;
 use lit_why::{attempts, least_mixing};
 use std::alloc::Global;
 use std::io;
 use std::io::Write;
 
 /// The verdict on a class that no valid execution has.
-pub(crate) fn verdict_without(class: Class) -> &'static str {
+pub(crate) fn verdict_without(class: Class) -> &'static str
+    ensures { result.now ≡ verdict_of class }
+{
     match class {
         Class::Met => "never",
         Class::Unmet => "always",
     }
 }
 
-/// Puts an example of a class, or why there is none. At most so many attempts are looked at.
-pub(crate) fn explain_class(
+/// Puts the verdict on a class that no valid execution has.
+fn put_verdict(text: &mut Vec<u8>, class: Class) -> io::Result<()>
+    ensures { OnOk result (text.new.items ≡ text.old.items ++ verdict_of class ++ codes ": ") }
+{
+    write!(text, "{}: ", verdict_without(class))
+}
+
+/// The text of the answer about a class behind its first line: an example, or why there is none. At most so many attempts are looked at.
+pub(crate) fn class_text(
     alloc: Global,
-    buffer: &mut Vec<u8>,
     plan: &Plan<'_>,
     statements: &Statements,
     class: Class,
     most: usize,
-) -> io::Result<()> {
-    writeln!(buffer, "test {}", plan.test().name())?;
-    match least_mixing(plan, Goal::OfClass(class)) {
-        Some(example) => buffer.write_all(&example_text(alloc, plan, example.choice)?),
-        None => put_attempts(alloc, buffer, plan, statements, class, most),
+) -> io::Result<Vec<u8>>
+    ensures { IfOk result (λ text. IsClassText plan.now class text.items) }
+{
+    // The law says that what is shown has an outcome in the class, and that there is none where nothing is shown.
+    shown_choices_meet_their_goal();
+    if let Some(example) = least_mixing(plan, Goal::OfClass(class)) {
+        return Ok(example_text(alloc, plan, example.choice)?);
     }
+    let mut why = Vec::new(alloc);
+    put_attempts(alloc, &mut why, plan, statements, class, most)?;
+    let mut text = Vec::new(alloc);
+    put_verdict(&mut text, class)?;
+    text.write_all(&why)?;
+    Ok(text)
 }
 
-/// Puts how many attempts there are, and by which clauses their least choices are refused.
+/// Puts how many attempts there are, and by which clauses their first cases are refused.
 fn put_attempts(
     alloc: Global,
     buffer: &mut Vec<u8>,
@@ -49,23 +67,19 @@ fn put_attempts(
     most: usize,
 ) -> io::Result<()> {
     let attempts = attempts(alloc, plan, class, most.saturating_add(1))?;
-    let verdict = verdict_without(class);
     match attempts.len() {
         0 => {
-            writeln!(
-                buffer,
-                "{verdict}: no attempt, since no values that the reads can take come to it"
-            )?;
+            buffer.write_all(b"no attempt, since no values that the reads can take come to it\n")?;
             buffer.write_all(b"  no path can make ")?;
             put_core(alloc, buffer, plan, class == Class::Met)?;
             return buffer.write_all(b" true\n");
         }
-        1 => writeln!(buffer, "{verdict}: 1 attempt")?,
+        1 => buffer.write_all(b"1 attempt\n")?,
         count if count > most => writeln!(
             buffer,
-            "{verdict}: more than {most} attempts; of the first {most}:"
+            "more than {most} attempts; of the first {most}:"
         )?,
-        count => writeln!(buffer, "{verdict}: {count} attempts")?,
+        count => writeln!(buffer, "{count} attempts")?,
     }
     let tally = Tally::count_all(alloc, plan, statements, &attempts, most)?;
     put_tally(alloc, buffer, plan, statements, &tally)
@@ -79,15 +93,16 @@ fn put_tally(
     statements: &Statements,
     tally: &Tally,
 ) -> io::Result<()> {
-    for (place, counted) in tally.counts().iter().enumerate() {
+    for counted in tally.counts() {
         let Some(told) = counted.first else {
             continue;
         };
-        let clause = clause_at(place);
         writeln!(
             buffer,
             "{} {} ({})",
-            clause.name, counted.count, clause.section
+            told.clause.name(),
+            counted.count,
+            told.clause.section()
         )?;
         if told.attempt.choice < plan.total() {
             told.put_cases(buffer)?;

@@ -1,64 +1,82 @@
 //! The clauses of a valid execution, as they are printed.
 
-ghost use Rattle.std.specs.Prelude.{◌<◌};
+ghost use Rattle.std.specs.Prelude.{◌≡◌, ◌<◌};
+ghost use Rattle.lit_reason.specs.AnswerText.{clause_of, name_of, section_of};
 
 use lit_why::Refusal;
 
-/// A clause: its name, and where ECMA-262 (2024) has it.
+/// A clause of a valid execution.
 #[derive(Clone, Copy, Debug, PartialEq, Eq)]
-pub(crate) struct Clause {
-    pub name: &'static str,
-    pub section: &'static str,
+pub(crate) enum Clause {
+    Paths,
+    HappensBefore,
+    CoherentReads,
+    TearFreeReads,
+    MemoryOrder,
 }
 
 /// How many clauses there are.
 pub(crate) const CLAUSE_COUNT: usize = 5;
 
 /// The clauses, in the order in which they are checked.
-const CLAUSES: [Clause; CLAUSE_COUNT] = [
-    Clause {
-        name: "paths",
-        section: "the guards of the paths",
-    },
-    Clause {
-        name: "happens-before",
-        section: "29.7.5 valid executions",
-    },
-    Clause {
-        name: "coherent-reads",
-        section: "29.7.2 coherent reads",
-    },
-    Clause {
-        name: "tear-free-reads",
-        section: "29.7.3 tear free reads",
-    },
-    Clause {
-        name: "memory-order",
-        section: "29.7.4 sequentially consistent atomics",
-    },
+pub(crate) const CLAUSES: [Clause; CLAUSE_COUNT] = [
+    Clause::Paths,
+    Clause::HappensBefore,
+    Clause::CoherentReads,
+    Clause::TearFreeReads,
+    Clause::MemoryOrder,
 ];
 
-/// The place of the clause that refuses something among the clauses.
-pub(crate) fn place_of(refusal: Refusal) -> usize
-    ensures { result < CLAUSE_COUNT }
-{
-    match refusal {
-        Refusal::FalseGuard { .. } => 0,
-        Refusal::BeforeItself { .. } => 1,
-        Refusal::Incoherent { .. } => 2,
-        Refusal::Torn { .. } => 3,
-        Refusal::NoOrder => 4,
+impl Clause {
+    /// The clause that refuses something.
+    pub(crate) fn of(refusal: Refusal) -> Self
+        ensures { result ≡ clause_of refusal }
+    {
+        match refusal {
+            Refusal::FalseGuard { .. } => Clause::Paths,
+            Refusal::BeforeItself { .. } => Clause::HappensBefore,
+            Refusal::Incoherent { .. } => Clause::CoherentReads,
+            Refusal::Torn { .. } => Clause::TearFreeReads,
+            Refusal::NoOrder => Clause::MemoryOrder,
+        }
     }
-}
 
-/// The clause at a place.
-pub(crate) fn clause_at(place: usize) -> Clause
-    requires { place < CLAUSE_COUNT }
-{
-    CLAUSES[place]
-}
+    /// Its place among the clauses.
+    pub(crate) fn place(self) -> usize
+        ensures { result < CLAUSE_COUNT }
+    {
+        match self {
+            Clause::Paths => 0,
+            Clause::HappensBefore => 1,
+            Clause::CoherentReads => 2,
+            Clause::TearFreeReads => 3,
+            Clause::MemoryOrder => 4,
+        }
+    }
 
-/// The clause that refuses something.
-pub(crate) fn clause_of(refusal: Refusal) -> Clause {
-    clause_at(place_of(refusal))
+    /// Its name.
+    pub(crate) fn name(self) -> &'static str
+        ensures { result.now ≡ name_of self }
+    {
+        match self {
+            Clause::Paths => "paths",
+            Clause::HappensBefore => "happens-before",
+            Clause::CoherentReads => "coherent-reads",
+            Clause::TearFreeReads => "tear-free-reads",
+            Clause::MemoryOrder => "memory-order",
+        }
+    }
+
+    /// Where ECMA-262 (2024) has it.
+    pub(crate) fn section(self) -> &'static str
+        ensures { result.now ≡ section_of self }
+    {
+        match self {
+            Clause::Paths => "the guards of the paths",
+            Clause::HappensBefore => "29.7.5 valid executions",
+            Clause::CoherentReads => "29.7.2 coherent reads",
+            Clause::TearFreeReads => "29.7.3 tear free reads",
+            Clause::MemoryOrder => "29.7.4 sequentially consistent atomics",
+        }
+    }
 }

@@ -1,16 +1,17 @@
 //! The answer to a question on a litmus text.
 
-ghost use Rattle.std.specs.Prelude.{◌≡◌, IfErr, IfOk, OnOk};
+ghost use Rattle.std.specs.Prelude.{◌≡◌, ◌++◌, false, IfErr, IfOk, OnOk};
+ghost use Rattle.lit_reason.specs.AnswerText.{IsTextOn, no_choice_line, test_line};
 ghost use Rattle.lit_reason.specs.Explained.{HasAnswerOn, IsFaultOn, IsFoundOn, IsWithinLimits};
-ghost use Rattle.lit_reason.specs.Internal.Subjects.{IsSubjectOf, IsTestFault, is_found};
+ghost use Rattle.lit_reason.specs.Internal.Subjects.{IsKnown, IsSubjectOf, IsSubjectText, IsTestFault, is_found};
 
-use crate::choices::explain_choice;
-use crate::classes::explain_class;
+use crate::choices::choice_text;
+use crate::classes::class_text;
 use crate::cores::text_before_condition;
 use crate::fault::ReasonFault;
 use crate::json::{choice_value, class_value, no_choice_value, race_value};
 use crate::question::{Asked, Question};
-use crate::races::explain_race;
+use crate::races::race_text;
 use crate::selection::select;
 use crate::statements::Statements;
 use lit_paths::{Plan, plan};
@@ -65,7 +66,8 @@ fn subject_of(
     statements: &Statements,
     question: Question<'_>,
 ) -> io::Result<Subject>
-    ensures { IfOk result (IsSubjectOf plan.now question.entry) }
+    ensures of { IfOk result (IsSubjectOf plan.now question.entry) }
+    ensures known { IfOk result (IsKnown plan.now) }
 {
     Ok(match question {
         Question::InClass(class) => Subject::InClass(class),
@@ -79,25 +81,55 @@ fn subject_of(
     })
 }
 
-/// Puts the answer about a subject as text.
-fn put_text(
+/// A text behind the line that answers begin with.
+fn with_test_line(alloc: Global, plan: &Plan<'_>, rest: &[u8]) -> io::Result<Vec<u8>>
+    ensures { IfOk result (λ text. text.items ≡ test_line plan.now ++ rest.now) }
+{
+    let mut text = Vec::new(alloc);
+    writeln!(text, "test {}", plan.test().name())?;
+    text.write_all(rest)?;
+    Ok(text)
+}
+
+/// The line that says which numbers choices have.
+fn no_choice_text(alloc: Global, plan: &Plan<'_>) -> io::Result<Vec<u8>>
+    ensures { IfOk result (λ text. text.items ≡ no_choice_line plan.now) }
+{
+    let mut text = Vec::new(alloc);
+    writeln!(text, "no such choice: they are 0 to {}", plan.total() - 1)?;
+    Ok(text)
+}
+
+/// The answer about a subject as text.
+fn text_of(
     alloc: Global,
-    buffer: &mut Vec<u8>,
     plan: &Plan<'_>,
     statements: &Statements,
     subject: Subject,
     most: usize,
-) -> io::Result<()> {
+) -> io::Result<Vec<u8>>
+    requires { IsKnown plan.now subject }
+    ensures { IfOk result (λ text. IsSubjectText plan.now subject text.items) }
+{
     match subject {
-        Subject::InClass(class) => explain_class(alloc, buffer, plan, statements, class, most),
-        Subject::Race => explain_race(buffer, plan, statements),
-        Subject::OfChoice(choice) if choice < plan.total() => {
-            explain_choice(alloc, buffer, plan, statements, choice)
+        Subject::InClass(class) => {
+            let rest = class_text(alloc, plan, statements, class, most)?;
+            with_test_line(alloc, plan, &rest)
         }
-        Subject::OfChoice(_) | Subject::OfNoNumber => {
-            writeln!(buffer, "no such choice: they are 0 to {}", plan.total() - 1)
+        Subject::Race => {
+            let rest = race_text(alloc, plan, statements)?;
+            with_test_line(alloc, plan, &rest)
         }
-        Subject::OfNoSources => buffer.write_all(b"no choice has these sources\n"),
+        Subject::OfChoice(choice) => {
+            let rest = choice_text(alloc, plan, statements, choice)?;
+            with_test_line(alloc, plan, &rest)
+        }
+        Subject::OfNoNumber => no_choice_text(alloc, plan),
+        Subject::OfNoSources => {
+            let mut text = Vec::new(alloc);
+            text.write_all(b"no choice has these sources\n")?;
+            Ok(text)
+        }
     }
 }
 
@@ -108,38 +140,53 @@ fn json_of(
     statements: &Statements,
     subject: Subject,
     most: usize,
-) -> Result<Value, AllocError> {
+) -> Result<Value, AllocError>
+    requires { IsKnown plan.now subject }
+{
     match subject {
         Subject::InClass(class) => class_value(alloc, plan, statements, class, most),
         Subject::Race => race_value(alloc, plan, statements),
-        Subject::OfChoice(choice) if choice < plan.total() => {
-            choice_value(alloc, plan, statements, choice)
-        }
-        Subject::OfChoice(_) | Subject::OfNoNumber | Subject::OfNoSources => {
-            no_choice_value(alloc, plan)
-        }
+        Subject::OfChoice(choice) => choice_value(alloc, plan, statements, choice),
+        Subject::OfNoNumber | Subject::OfNoSources => no_choice_value(alloc, plan),
     }
 }
 
-/// Puts the answer to a question on a test. Gives whether there is a choice as it is asked for.
-fn put_answer(
+/// The answer about a subject as a line of JSON.
+fn json_line(
     alloc: Global,
-    buffer: &mut Vec<u8>,
+    plan: &Plan<'_>,
+    statements: &Statements,
+    subject: Subject,
+    most: usize,
+) -> io::Result<Vec<u8>>
+    requires { IsKnown plan.now subject }
+{
+    let value = json_of(alloc, plan, statements, subject, most)?;
+    let mut text = value.to_vec(alloc)?;
+    text.write_all(b"\n")?;
+    Ok(text)
+}
+
+/// The answer to a question on a test.
+fn answer_of(
+    alloc: Global,
     plan: &Plan<'_>,
     statements: &Statements,
     asked: &Asked<'_>,
-) -> io::Result<bool>
-    ensures { IfOk result (IsFoundOn plan.now asked.now.question) }
+) -> io::Result<Answer>
+    ensures found { IfOk result (λ answer. IsFoundOn plan.now asked.now.question answer.found) }
+    ensures text { asked.now.json ≡ false → IfOk result (λ answer. IsTextOn plan.now asked.now.question answer.text.items) }
 {
     let subject = subject_of(alloc, plan, statements, asked.question)?;
-    if asked.json {
-        let value = json_of(alloc, plan, statements, subject, asked.most)?;
-        buffer.write_all(&value.to_vec(alloc)?)?;
-        buffer.write_all(b"\n")?;
+    let text = if asked.json {
+        json_line(alloc, plan, statements, subject, asked.most)?
     } else {
-        put_text(alloc, buffer, plan, statements, subject, asked.most)?;
-    }
-    Ok(subject.is_found())
+        text_of(alloc, plan, statements, subject, asked.most)?
+    };
+    Ok(Answer {
+        text,
+        found: subject.is_found(),
+    })
 }
 
 /// The text of a test with another condition.
@@ -159,13 +206,13 @@ fn explain_test(
 ) -> Result<Answer, ReasonFault>
     ensures planned { OnOk result (IsWithinLimits test.now) }
     ensures found { IfOk result (λ answer. IsFoundOn test.now asked.now.question answer.found) }
+    ensures text { asked.now.json ≡ false → IfOk result (λ answer. IsTextOn test.now asked.now.question answer.text.items) }
     ensures fault { IfErr result (IsTestFault test.now) }
 {
     let plan = plan(alloc, test)?;
-    let mut text = Vec::new(alloc);
-    // Writing into the text fails only where memory for its growth is refused.
-    match put_answer(alloc, &mut text, &plan, statements, asked) {
-        Ok(found) => Ok(Answer { text, found }),
+    // Writing into a text fails only where memory for its growth is refused.
+    match answer_of(alloc, &plan, statements, asked) {
+        Ok(answer) => Ok(answer),
         Err(_) => Err(ReasonFault::OutOfMemory),
     }
 }

@@ -5,7 +5,6 @@ ghost use Rattle.lit_paths.specs.Choice.{choices_of};
 
 use crate::attempts::{Tally, Told};
 use crate::classes::verdict_without;
-use crate::clauses::{CLAUSE_COUNT, clause_at};
 use crate::cores::put_core;
 use crate::execution::execution_value;
 use crate::found::found_of;
@@ -73,18 +72,15 @@ fn clause_value(
     alloc: Global,
     plan: &Plan<'_>,
     statements: &Statements,
-    place: usize,
     count: u64,
     told: &Told,
 ) -> Result<Value, AllocError>
-    requires place { place < CLAUSE_COUNT }
-    requires choice { told.now.attempt.choice < length (choices_of plan.now) }
+    requires { told.now.attempt.choice < length (choices_of plan.now) }
 {
-    let clause = clause_at(place);
     let scene = told.scene(plan, statements);
     let execution = execution_value(alloc, &scene, None)?;
     json!(in alloc; {
-        "clause": clause.name, "section": clause.section, "attempts": count, "choices": told.attempt.choices,
+        "clause": told.clause.name(), "section": told.clause.section(), "attempts": count, "choices": told.attempt.choices,
         "cases": told.cases, "whole": told.whole, "choice": told.attempt.choice, "execution": execution
     })
 }
@@ -97,12 +93,12 @@ fn clauses_value(
     tally: &Tally,
 ) -> Result<Value, AllocError> {
     let mut list = Vec::new(alloc);
-    for (place, counted) in tally.counts().iter().enumerate() {
+    for counted in tally.counts() {
         let Some(told) = counted.first else {
             continue;
         };
         if told.attempt.choice < plan.total() {
-            list.push(clause_value(alloc, plan, statements, place, counted.count, &told)?)?;
+            list.push(clause_value(alloc, plan, statements, counted.count, &told)?)?;
         }
     }
     Ok(Value::Array(list))

@@ -1,6 +1,6 @@
 //! What refuses a choice, as JSON: the clause with its witness.
 
-use crate::clauses::clause_of;
+use crate::clauses::Clause;
 use crate::execution::{name_value, pair_value};
 use crate::scene::Scene;
 use lit_why::{DerivationLine, Reason, Refusal, StepKind};
@@ -108,7 +108,7 @@ pub(crate) fn refusal_value(alloc: Global, scene: &Scene<'_>) -> Result<Value, A
     let Some(refusal) = scene.refusal else {
         return Ok(Value::Null);
     };
-    let clause = clause_of(refusal).name;
+    let clause = Clause::of(refusal).name();
     match refusal {
         Refusal::FalseGuard { agent, place } => {
             let line = scene.line_of_guard(alloc, agent, place)?;

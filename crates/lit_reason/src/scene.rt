@@ -1,7 +1,13 @@
 //! A choice of a test as the program describes it: its events have names, and the lines of their statements.
 
-ghost use Rattle.std.specs.Prelude.{◌<◌, length};
+ghost use Rattle.std.specs.Prelude.{◌≡◌, ℕ, ◌<◌, ◌++◌, List, MatchOption, OnOk, length};
 ghost use Rattle.lit_paths.specs.Choice.{choices_of};
+ghost use Rattle.lit_paths.specs.Event.{event_at};
+ghost use Rattle.lit_print.specs.EntryText.{event_name as name_of};
+ghost use Rattle.lit_rel.specs.Part.{part_events};
+ghost use Rattle.lit_valid.specs.Completion.{HasCompletion};
+ghost use Rattle.lit_why.specs.Refusal.{IsRefusal};
+ghost use Rattle.lit_reason.specs.AnswerText.{IsPartOf};
 
 use crate::guards::guards_of;
 use crate::statements::{EventLines, Statements};
@@ -89,6 +95,9 @@ impl<'p> Scene<'p> {
     /// The choice with this number.
     pub(crate) fn new(plan: &'p Plan<'p>, statements: &'p Statements, choice: u64) -> Self
         requires { choice < length (choices_of plan.now) }
+        ensures plan { result.plan.now ≡ plan.now }
+        ensures part { IsPartOf plan.now choice result.part }
+        ensures refusal { MatchOption result.refusal (HasCompletion result.part) (IsRefusal result.part) }
     {
         let part = part_of(plan, choice);
         let sources = plan.sources(choice);
@@ -194,13 +203,17 @@ impl<'p> Scene<'p> {
     }
 
     /// Puts the name of an event, by its number.
-    pub(crate) fn put_event(&self, buffer: &mut Vec<u8>, event: u8) -> io::Result<()> {
-        match self.part.combination().events().get(usize::from(event)) {
+    pub(crate) fn put_event(&self, buffer: &mut Vec<u8>, event: u8) -> io::Result<()>
+        ensures { OnOk result (event < length (part_events self.now.part)
+            → buffer.new.items ≡ buffer.old.items ++ name_of self.now.part.test (event_at (part_events self.now.part) event)) }
+    {
+        let combination = self.part.combination();
+        match combination.events().get(usize::from(event)) {
             Some(event) => write!(
                 buffer,
                 "{}",
                 EventName {
-                    test: self.plan.test(),
+                    test: combination.test(),
                     event
                 }
             ),
@@ -243,7 +256,10 @@ impl<'p> Scene<'p> {
     }
 
     /// Puts the name of an event, with the line of its statement.
-    pub(crate) fn put_placed(&self, buffer: &mut Vec<u8>, event: u8) -> io::Result<()> {
+    pub(crate) fn put_placed(&self, buffer: &mut Vec<u8>, event: u8) -> io::Result<()>
+        ensures { OnOk result (event < length (part_events self.now.part) → (place : List ℕ)
+            × (buffer.new.items ≡ buffer.old.items ++ name_of self.now.part.test (event_at (part_events self.now.part) event) ++ place)) }
+    {
         self.put_event(buffer, event)?;
         match self.line_of(event) {
             Some(line) => write!(buffer, " (line {line})"),
@@ -251,8 +267,7 @@ impl<'p> Scene<'p> {
         }
     }
 
-    /// Puts a line for each event that reads, with the source of each of its bytes. Of a case only what is given is put, and a source of
-    /// several bytes once.
+    /// Puts a line for each event that reads, with the sources of its bytes that are given; of a case, a source of several bytes once.
     pub(crate) fn put_sources(&self, buffer: &mut Vec<u8>) -> io::Result<()> {
         let (mut last, mut before) = (None, None);
         for (place, byte) in self.part.combination().byte_reads().iter().enumerate() {
@@ -277,15 +292,5 @@ impl<'p> Scene<'p> {
             buffer.write_all(b"\n")?;
         }
         Ok(())
-    }
-
-    /// Puts the line of a memory-order.
-    pub(crate) fn put_order(&self, buffer: &mut Vec<u8>, order: &[u8]) -> io::Result<()> {
-        buffer.write_all(b"  order")?;
-        for event in order {
-            buffer.write_all(b" ")?;
-            self.put_event(buffer, *event)?;
-        }
-        buffer.write_all(b"\n")
     }
 }

@@ -1,5 +1,8 @@
 //! The choice that words select: by the sources of its reads, and by final values of registers.
 
+ghost use Rattle.std.specs.Prelude.{◌<◌, IfOk, IfSome, length};
+ghost use Rattle.lit_paths.specs.Choice.{choices_of};
+
 use crate::scene::{EventName, Scene};
 use crate::statements::Statements;
 use lit_paths::{Combination, Event, Plan};
@@ -162,7 +165,9 @@ pub(crate) fn select(
     plan: &Plan<'_>,
     statements: &Statements,
     words: &str,
-) -> Result<Option<u64>, AllocError> {
+) -> Result<Option<u64>, AllocError>
+    ensures { IfOk result (λ found. IfSome found (λ choice. choice < length (choices_of plan.now))) }
+{
     let mut allowed = None;
     for number in 0..plan.combinations() {
         let Some(choice) = choice_on(alloc, &plan.enter(number), words)? else {

@@ -18,6 +18,7 @@ pub mod ReachLemmas
 pub mod RefusalLemmas
 pub mod RelationLemmas
 pub mod RepresentativeLemmas
+pub mod ShownLemmas
 pub mod StepLemmas
 pub mod TrialLemmas
 pub mod VerdictLemmas

@@ -94,7 +94,7 @@ covered_none laws box cases x cover is =
     refuted_none laws (case_box box has.case) x case.is_box (record { valid = is.valid; on_paths = is.on_paths; within = has.lies })
     has.case.refusal case.refuted
 
-has_its_sources : (t : Litmus) (n : ℕ) (x : Execution) → slice_get (choices_of t) n ≡ Some (execution_choice x) → HasSources t n x.sources
+pub has_its_sources : (t : Litmus) (n : ℕ) (x : Execution) → slice_get (choices_of t) n ≡ Some (execution_choice x) → HasSources t n x.sources
 has_its_sources t n x chosen = record { choice = execution_choice x; listed = chosen; same = refl }
 
 -- ---- no choice of a refuted attempt has a valid execution
@@ -151,7 +151,7 @@ module _ (laws : Laws) (t : Litmus) (m n : ℕ) (cases : List Case) (r : IsRefut
       within = subst (LiesIn (box_with (t, c) r.domains)) (sym its) within_other
 
 -- ---- a choice whose valid execution has an outcome of the class tries it
-stands : (t : Litmus) (k n : ℕ) → n < choices_before t k → (c : ℕ) × (c < k) × (choices_before t c ≤ n) × (n < choices_before t (c + 1))
+pub stands : (t : Litmus) (k n : ℕ) → n < choices_before t k → (c : ℕ) × (c < k) × (choices_before t c ≤ n) × (n < choices_before t (c + 1))
 stands t zero n high = absurd (omega (arith, high))
 stands t (suc k) n high = by (cases_lt n (choices_before t k)) (stands t k n)
   where

@@ -1,20 +1,25 @@
 //! Laws on derivations, refusals and attempts. The functions compute nothing: their contracts are theorems.
 
-ghost use Rattle.std.specs.Prelude.{◌≡◌, ◌≢◌, ℕ, ◌<◌, List, Some, length, slice_get};
+ghost use Rattle.std.specs.Prelude.{◌≡◌, ◌≢◌, ◌↔◌, ℕ, ◌<◌, List, Some, length, slice_get};
 ghost use Rattle.lit_order.specs.Forcing.{HasForcedCycle};
 ghost use Rattle.lit_order.specs.MemoryOrder.{IsMemoryOrder};
 ghost use Rattle.lit_paths.specs.Choice.{AreSources, choices_of};
 ghost use Rattle.lit_paths.specs.Execution.{Execution, execution_choice};
+ghost use Rattle.lit_paths.specs.Plan.{HasSources, IsOfCombination};
 ghost use Rattle.lit_paths.specs.declared.event.Event.{Event as ExecutionEvent};
 ghost use Rattle.lit_syntax.specs.Syntax.{IsLitmus, Litmus};
+ghost use Rattle.lit_rel.specs.DataRace.{HasDataRace};
 ghost use Rattle.lit_rel.specs.Forbidden.{IsForbidden};
 ghost use Rattle.lit_rel.specs.HappensBefore.{HappensBefore};
-ghost use Rattle.lit_rel.specs.Part.{PartModel, part_events};
+ghost use Rattle.lit_rel.specs.Part.{IsComplete, PartModel, part_events};
 ghost use Rattle.lit_valid.specs.Completion.{HasCompletion, IsOnCombination};
 ghost use Rattle.lit_valid.specs.Class.{GivesClass};
+ghost use Rattle.lit_valid.specs.Gives.{Gives, GivesRace};
 ghost use Rattle.lit_valid.specs.ValidExecution.{IsValidExecution};
 ghost use Rattle.lit_valid.specs.declared.class.Class.{Class};
+ghost use Rattle.lit_solve.specs.declared.goal.Goal.TheVariants.{OfClass, Race};
 ghost use Rattle.lit_why.specs.Attempts.{AreFirstAttempts, AreOneAttempt, TriesClass};
+ghost use Rattle.lit_why.specs.LeastMixing.{HasNoneOn, IsShown};
 ghost use Rattle.lit_why.specs.Refutation.{IsRefutedAttempt};
 ghost use Rattle.lit_why.specs.declared.attempt.Attempt.{Attempt as ClassAttempt};
 ghost use Rattle.lit_why.specs.declared.cases.covering.Case.{Case as RefutedCase};
@@ -90,6 +95,27 @@ pub fn attempts_part_the_choices()
     ensures itself { (t : Litmus) (class : Class) (n : ℕ) → TriesClass t class n → AreOneAttempt t n n }
     ensures back { (t : Litmus) (m n : ℕ) → AreOneAttempt t m n → AreOneAttempt t n m }
     ensures through { (t : Litmus) (l m n : ℕ) → AreOneAttempt t l m → AreOneAttempt t m n → AreOneAttempt t l n }
+{
+    laws_below();
+}
+
+/// Some valid execution with the choice that is shown meets the goal; where none is shown, no valid execution does.
+pub fn shown_choices_meet_their_goal()
+    ensures class { (t : Litmus) (class : Class) (n : ℕ) (sources order : List ℕ) → IsShown t (OfClass class) n sources order
+        → GivesClass t class n }
+    ensures no_class { (t : Litmus) (class : Class) → ((c : ℕ) → HasNoneOn t (OfClass class) c) → (n : ℕ) → ¬ GivesClass t class n }
+    ensures race { (t : Litmus) (n : ℕ) (sources order : List ℕ) → IsShown t Race n sources order → GivesRace t n }
+    ensures no_race { (t : Litmus) → ((c : ℕ) → HasNoneOn t Race c) → (n : ℕ) → ¬ GivesRace t n }
+{
+    laws_below();
+}
+
+/// A complete part has a completion exactly where some valid execution has its choice, and a data race where that has one.
+pub fn complete_parts_are_choices()
+    ensures outcome { (part : PartModel) (n : ℕ) → IsOfCombination part.test n part.combination → HasSources part.test n part.sources
+        → IsComplete part → HasCompletion part ↔ ((outcome : List ℕ) × Gives part.test n outcome) }
+    ensures race { (part : PartModel) (n : ℕ) → IsOfCombination part.test n part.combination → HasSources part.test n part.sources
+        → IsComplete part → GivesRace part.test n → HasDataRace (part_events part) part.sources }
 {
     laws_below();
 }

@@ -10,7 +10,7 @@ use std::process::Abort;
 use std::test::Fail;
 
 /// Message passing over words: of the flag's 1 only the low byte tells its store, of the datum's 0 only the low byte tells init.
-const WORDS: &str = "test words
+pub(crate) const WORDS: &str = "test words
 bytes 8
 agent A
 U32[0] = 42

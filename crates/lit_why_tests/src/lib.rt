@@ -4,6 +4,8 @@
 #[cfg(test)]
 mod attempts;
 #[cfg(test)]
+mod choices;
+#[cfg(test)]
 mod covers;
 #[cfg(test)]
 mod mixing;
