@@ -1,11 +1,12 @@
 -- What a call that explains hands out (this project's own).
-use Rattle.std.specs.Prelude.{◌≡◌, ◌≢◌, ◌⊎◌, ◌≤◌, ℕ, Bool, List, [], None, IfSome}
+use Rattle.std.specs.Prelude.{◌≡◌, ◌≢◌, ◌⊎◌, ◌≤◌, ◌<◌, ℕ, Bool, List, [], None, IfSome}
 use Rattle.lit_reason.specs.declared.explanation.Answer.{Answer}
 use Rattle.lit_reason.specs.declared.fault.ReasonFault.{ReasonFault}
 use Rattle.lit_reason.specs.declared.fault.ReasonFault.TheVariants as faults
 use Rattle.lit_reason.specs.declared.question.Asked.{Asked}
 use Rattle.lit_reason.specs.declared.question.Question.{Question}
 use Rattle.lit_reason.specs.declared.question.Question.TheVariants.{InClass, OfChoice, OfSources, Race}
+use Rattle.lit_reason.specs.declared.question.TheConstants.{MOST_LIMIT}
 use Rattle.lit_reason.specs.Explained.{HasAnswerOn, IsFaultOn}
 use Rattle.lit_valid.specs.declared.class.Class.TheVariants.{Met, Unmet}
 use Rattle.jslit.specs.RefusalText.{plan_fault_line, read_fault_line}
@@ -31,6 +32,10 @@ pub record AsksFor (number choice : ℕ) (words condition : List ℕ) (asked : A
   pub question : IsQuestionOf number choice words asked.question
   pub own : condition ≡ [] → asked.condition ≡ None
   pub other : condition ≢ [] → IfSome asked.condition (λ given. given.now ≡ condition) × (asked.condition ≢ None)
+
+-- what may not be asked: a question with such a number, words or a condition may be none, and so many attempts are too many
+abbrev pub MayNotAsk : (number : ℕ) → (condition : List ℕ) → (most : ℕ) → Type 0
+MayNotAsk number condition most = (4 ≤ number) ⊎ (condition ≢ []) ⊎ (MOST_LIMIT < most)
 
 -- the text of an answer to what is asked, which says whether there is a choice as it is asked for
 pub record IsReasonOn (text : List ℕ) (asked : Asked) (found : Bool) (bytes : List ℕ) : Type 0 where

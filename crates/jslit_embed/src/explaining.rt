@@ -1,8 +1,9 @@
 //! What `jslit-why` answers.
 
-ghost use Rattle.std.specs.Prelude.{◌≡◌, ◌≢◌, ◌⊎◌, true, false, None, IfSome};
+ghost use Rattle.std.specs.Prelude.{◌≡◌, ◌≢◌, ◌⊎◌, ◌≤◌, ◌<◌, true, false, None, IfNone, IfSome};
 ghost use Rattle.jslit_embed.specs.Handed.{HandsNothing, HandsSome};
-ghost use Rattle.jslit_embed.specs.Why.{AsksFor, IsQuestionOf, IsReasonOn, IsRefusalOn, IsWhyStatus};
+ghost use Rattle.jslit_embed.specs.Why.{AsksFor, IsQuestionOf, IsReasonOn, IsRefusalOn, IsWhyStatus, MayNotAsk};
+ghost use Rattle.lit_reason.specs.declared.question.TheConstants.{MOST_LIMIT};
 
 use crate::handing::{hand_nothing, hand_out, hand_said};
 use jslit::RunFault;
@@ -27,7 +28,8 @@ const WORDS: u8 = 4;
 
 /// The question with a number, if there is one, and words for it are such words.
 fn question_of(number: u8, choice: u64, words: &[u8]) -> Option<Question<'_>>
-    ensures { IfSome result (IsQuestionOf number choice words.now) }
+    ensures asked { IfSome result (IsQuestionOf number choice words.now) }
+    ensures none { IfNone result (4 ≤ number) }
 {
     match number {
         MET => Some(Question::InClass(Class::Met)),
@@ -43,7 +45,9 @@ fn question_of(number: u8, choice: u64, words: &[u8]) -> Option<Question<'_>>
 }
 
 /// How many attempts are looked at: as many as `jslit-why` looks at where 0 are asked for; none where too many are.
-fn most_of(most: usize) -> Option<usize> {
+fn most_of(most: usize) -> Option<usize>
+    ensures { IfNone result (MOST_LIMIT < most) }
+{
     if most == 0 {
         Some(MOST)
     } else if most <= MOST_LIMIT {
@@ -62,7 +66,8 @@ pub(crate) fn asked_of<'a>(
     most: usize,
     json: bool,
 ) -> Option<Asked<'a>>
-    ensures { IfSome result (AsksFor number choice words.now condition.now) }
+    ensures asked { IfSome result (AsksFor number choice words.now condition.now) }
+    ensures none { IfNone result (MayNotAsk number condition.now most) }
 {
     let condition = match condition {
         [] => None,

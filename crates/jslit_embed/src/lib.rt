@@ -14,7 +14,7 @@ ghost use Rattle.std.specs.Prelude.{◌≡◌, ◌⊎◌, true, false};
 ghost use Rattle.jslit.specs.Answer.{IsAnswerOn, IsFaultOn};
 ghost use Rattle.jslit.specs.InterleavingAnswer.{IsInterleavingOn, IsScheduleFaultOn};
 ghost use Rattle.jslit_embed.specs.Handed.{HandsAnswer, HandsNothing, HandsRefusal, HandsSome, IsEmbedStatus};
-ghost use Rattle.jslit_embed.specs.Why.{AsksFor, IsReasonOn, IsRefusalOn, IsWhyStatus};
+ghost use Rattle.jslit_embed.specs.Why.{AsksFor, IsReasonOn, IsRefusalOn, IsWhyStatus, MayNotAsk};
 ghost use Rattle.lit_json.specs.Line.{IsLineOn};
 ghost use Rattle.lit_reason.specs.declared.question.Asked.{Asked};
 
@@ -103,7 +103,7 @@ pub extern "C" fn jslit_why(
     ensures refused { result ≡ 1 → (asked : Asked) × AsksFor question choice words.now condition.now asked
         × (HandsSome (IsReasonOn text.now asked false) out.old out.new length.new
         ⊎ HandsSome (IsRefusalOn text.now asked) out.old out.new length.new) }
-    ensures words { result ≡ 2 → HandsNothing out.old out.new length.new }
+    ensures words { result ≡ 2 → MayNotAsk question condition.now most × HandsNothing out.old out.new length.new }
     ensures memory { result ≡ 3 → HandsNothing out.old out.new length.new }
 {
     match asked_of(question, choice, words, condition, most, json != 0) {
@@ -116,7 +116,8 @@ pub extern "C" fn jslit_why(
 #[unsafe(no_mangle)]
 pub extern "C" fn jslit_text(alloc: Global, text: &[u8], out: &mut [u8], length: &mut usize) -> u8
     ensures status { IsEmbedStatus result }
-    ensures told { (result ≡ 0) ⊎ (result ≡ 1) → HandsSome (IsLineOn text.now) out.old out.new length.new }
+    ensures told { result ≡ 0 → HandsSome (IsLineOn text.now true) out.old out.new length.new }
+    ensures refused { result ≡ 1 → HandsSome (IsLineOn text.now false) out.old out.new length.new }
     ensures memory { result ≡ 3 → HandsNothing out.old out.new length.new }
 {
     let Ok(told) = text_line(alloc, VERSION, text) else {

@@ -1,34 +1,37 @@
 //! The answer for a text, and the program's status.
 
-use crate::command::file_of;
+ghost use Rattle.std.specs.Prelude.{◌≡◌, ◌⊎◌, ℕ, List, true, false};
+ghost use Rattle.jslit_text.specs.Told.{HasTold};
+
 use clap::Error;
 use clap::error::ErrorKind;
 use lit_json::text_line;
 use lit_syntax::TEXT_LIMIT;
 use lit_words::VERSION;
 use std::alloc::Global;
-use std::convert::AsStr;
 use std::io::{Read, Write};
 use std::rt::Files;
 use std::{fs, io};
 
-/// Prints what the text says that the words name. Gives the status: 0 for a test, 1 for a text or test that is refused, 2 for a
-/// fault of the words, 3 where memory ran out, 4 for an input or output that failed.
-pub(crate) fn answer<T: Files, S: AsStr, R: Read + Drop, W: Write, E: Write>(
+/// Prints what the text says that stands in this file, or on the input. Gives the status: 0 for a test, 1 for a text or test that
+/// is refused, 3 where memory ran out, 4 for an input or output that failed.
+pub(crate) fn answer<T: Files, R: Read + Drop, W: Write, E: Write>(
     rt: &T,
     alloc: Global,
-    words: &[S],
+    path: Option<&str>,
     input: R,
     output: &mut W,
     errors: &mut E,
-) -> u8 {
-    let text = match file_of(alloc, words) {
-        Ok(None) => read_text(alloc, input),
-        Ok(Some(path)) => match fs::open(rt, path) {
+) -> u8
+    ensures told { result ≡ 0 → (text : List ℕ) × HasTold text true (W.contents output.old) (W.contents output.new) }
+    ensures refused { result ≡ 1 → (text : List ℕ) × HasTold text false (W.contents output.old) (W.contents output.new) }
+{
+    let text = match path {
+        None => read_text(alloc, input),
+        Some(path) => match fs::open(rt, path) {
             Ok(file) => read_text(alloc, file),
             Err(error) => Err(error),
         },
-        Err(error) => return explain_words(output, errors, &error),
     };
     match text {
         Ok(text) => answer_text(alloc, &text, output, errors),
@@ -44,12 +47,10 @@ fn read_text<R: Read + Drop>(alloc: Global, input: R) -> io::Result<Vec<u8>> {
 }
 
 /// Prints what a text says. Gives the status.
-fn answer_text<W: Write, E: Write>(
-    alloc: Global,
-    text: &[u8],
-    output: &mut W,
-    errors: &mut E,
-) -> u8 {
+fn answer_text<W: Write, E: Write>(alloc: Global, text: &[u8], output: &mut W, errors: &mut E) -> u8
+    ensures told { result ≡ 0 → HasTold text.now true (W.contents output.old) (W.contents output.new) }
+    ensures refused { result ≡ 1 → HasTold text.now false (W.contents output.old) (W.contents output.new) }
+{
     let Ok(told) = text_line(alloc, VERSION, text) else {
         return say(errors, "out_of_memory", 3);
     };
@@ -60,7 +61,9 @@ fn answer_text<W: Write, E: Write>(
 }
 
 /// Prints the line of a fault of the input. Gives the status.
-pub(crate) fn refuse<E: Write>(errors: &mut E, error: &io::Error) -> u8 {
+pub(crate) fn refuse<E: Write>(errors: &mut E, error: &io::Error) -> u8
+    ensures { (result ≡ 3) ⊎ (result ≡ 4) }
+{
     if error.kind() == io::ErrorKind::OutOfMemory {
         say(errors, "out_of_memory", 3)
     } else {
@@ -69,13 +72,19 @@ pub(crate) fn refuse<E: Write>(errors: &mut E, error: &io::Error) -> u8 {
 }
 
 /// Prints a line on standard error, and gives this status.
-fn say<E: Write>(errors: &mut E, said: &str, status: u8) -> u8 {
+fn say<E: Write>(errors: &mut E, said: &str, status: u8) -> u8
+    ensures { result ≡ status }
+{
     let _ = writeln!(errors, "{said}");
     status
 }
 
 /// Prints what `clap` answers to words that ask for no text: the help, or what is wrong with them. Gives the status.
-fn explain_words<W: Write, E: Write>(output: &mut W, errors: &mut E, error: &Error) -> u8 {
+pub(crate) fn explain_words<W: Write, E: Write>(
+    output: &mut W,
+    errors: &mut E,
+    error: &Error,
+) -> u8 {
     match error.kind() {
         ErrorKind::OutOfMemory => say(errors, "out_of_memory", 3),
         ErrorKind::DisplayHelp | ErrorKind::DisplayVersion => {

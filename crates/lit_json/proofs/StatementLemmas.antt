@@ -6,7 +6,7 @@ use Rattle.serde_json.specs.Data.{Data, Items, item}
 use Rattle.serde_json.specs.View.{items_of}
 use Rattle.lit_syntax.specs.declared.syntax.Stmt.{Stmt}
 use Rattle.lit_syntax.specs.Litmus.{statement_of, statements_of}
-use Rattle.lit_syntax.specs.StatementOrder.{count_with_parts, statement_count}
+use Rattle.lit_syntax.specs.StatementOrder.{count_with_parts}
 use Rattle.lit_json.specs.StatementData.{statement_data, statements_data}
 
 -- statements as data, the first of which begins on the first of these lines

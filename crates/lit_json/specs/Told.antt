@@ -1,14 +1,17 @@
 -- What the JSON of a text says of it (this project's own).
-use Rattle.std.specs.Prelude.{◌≡◌, ◌⊎◌, ◌≤◌, ℕ, List, codes, length}
-use Rattle.serde_json.specs.Data.{Data, null, boolean, string, array, object, Items, no_items, item, Members, member, no_members}
+use Rattle.std.specs.Prelude.{◌≡◌, ◌⊎◌, ◌≤◌, ◌++◌, ℕ, Bool, true, false, List, codes, length}
+use Rattle.std.specs.Fmt.{decimal}
+use Rattle.serde_json.specs.Data.{Data, null, boolean, string, array, object, Items, no_items, item, member, no_members}
 use Rattle.lit_syntax.specs.Syntax.{Condition, Any, All, Not, Is, Conditions, NoMore, Also, Litmus, agent_of}
 use Rattle.lit_syntax.specs.declared.limits.TheConstants as syntax_limits
+use Rattle.lit_read.specs.FaultNames.{kind_text}
 use Rattle.lit_read.specs.Faults.{IsFirstFault}
 use Rattle.lit_read.specs.Spelling.{Spells}
 use Rattle.lit_read.specs.StatementLines.{ListsStatementLines}
 use Rattle.lit_read.specs.declared.fault.ReadKind.{ReadKind}
 use Rattle.lit_json.specs.StatementData.{agents_data, count}
 use Rattle.lit_paths.specs.Choice.{combinations_of, choices_of}
+use Rattle.lit_paths.specs.FaultNames.{limit_text}
 use Rattle.lit_paths.specs.Plan.{HasFewEvents, IsRefusal}
 use Rattle.lit_paths.specs.declared.fault.PlanFault.{PlanFault}
 use Rattle.lit_paths.specs.declared.limits.TheConstants as path_limits
@@ -69,10 +72,11 @@ pub record IsTestOf (text : List ℕ) (t : Litmus) (value : Data) : Type 0 where
   pub listed : ListsStatementLines text lines
   pub is : value ≡ test_data lines t
 
--- a fault, with its line, or with null for the line
-pub record IsFaultData (line value : Data) : Type 0 where
+-- a fault by its number and its word, which `jslit` prints with a blank between them; with its line, or with null for the line
+pub record IsFaultData (printed : List ℕ) (line value : Data) : Type 0 where
   pub number : ℕ
   pub word : List ℕ
+  pub named : printed ≡ decimal number ++ codes " " ++ word
   pub is : value ≡ object
       (member (codes "line") line
       (member (codes "number") (count number)
@@ -98,7 +102,7 @@ pub record IsTooLarge (text : List ℕ) (test counts fault : Data) : Type 0 wher
   pub refused : IsRefusal litmus limit
   pub told : IsTestOf text litmus test
   pub uncounted : counts ≡ null
-  pub faulty : IsFaultData null fault
+  pub faulty : IsFaultData (limit_text limit) null fault
 
 -- the text spells no test
 pub record IsFaulty (text : List ℕ) (test counts fault : Data) : Type 0 where
@@ -107,11 +111,12 @@ pub record IsFaulty (text : List ℕ) (test counts fault : Data) : Type 0 where
   pub refused : IsFirstFault text kind line
   pub untold : test ≡ null
   pub uncounted : counts ≡ null
-  pub faulty : IsFaultData (count line) fault
+  pub faulty : IsFaultData (kind_text kind) (count line) fault
 
--- what the members of the JSON say of the text
-abbrev pub IsOfText : List ℕ → Data → Data → Data → Type 0
-IsOfText text test counts fault = IsAllowed text test counts fault ⊎ IsTooLarge text test counts fault ⊎ IsFaulty text test counts fault
+-- what the members of the JSON say of a text that spells a test within the limits, or of another
+abbrev pub IsOfText : (allowed : Bool) → List ℕ → Data → Data → Data → Type 0
+IsOfText true text test counts fault = IsAllowed text test counts fault
+IsOfText false text test counts fault = IsTooLarge text test counts fault ⊎ IsFaulty text test counts fault
 
 -- the JSON with these members
 abbrev pub told_data : (version : List ℕ) → (test counts fault : Data) → Data
@@ -124,10 +129,10 @@ told_data version test counts fault = object
     (member (codes "test") test
     no_members))))))
 
--- what the JSON says of the text
-pub record IsTold (version text : List ℕ) (value : Data) : Type 0 where
+-- what the JSON says of the text, and whether that spells a test within the limits
+pub record IsTold (version text : List ℕ) (allowed : Bool) (value : Data) : Type 0 where
   pub test : Data
   pub counts : Data
   pub fault : Data
-  pub of_text : IsOfText text test counts fault
+  pub of_text : IsOfText allowed text test counts fault
   pub is : value ≡ told_data version test counts fault

@@ -17,4 +17,4 @@ mod text;
 
 pub use limits::limits_value;
 pub use line::{TextLine, text_line};
-pub use text::{FORM, text_value};
+pub use text::{FORM, TextValue, text_value};

@@ -4,7 +4,6 @@ ghost use Rattle.std.specs.Prelude.{IfOk};
 ghost use Rattle.lit_json.specs.Line.{IsLineOn};
 
 use crate::text::text_value;
-use serde_json::Value;
 use std::alloc::{AllocError, Global};
 
 /// A line of JSON on a text.
@@ -25,11 +24,13 @@ fn number_of(version: &str) -> &str {
 
 /// What a text says, as `text_value` has it, on one line. Of the version its first line is told.
 pub fn text_line(alloc: Global, version: &str, text: &[u8]) -> Result<TextLine, AllocError>
-    ensures { IfOk result (λ told. IsLineOn text.now told.line.items) }
+    ensures { IfOk result (λ told. IsLineOn text.now told.is_test told.line.items) }
 {
-    let value = text_value(alloc, number_of(version), text)?;
-    let is_test = value.get("fault").is_some_and(Value::is_null);
-    let mut line = value.to_vec(alloc)?;
+    let told = text_value(alloc, number_of(version), text)?;
+    let mut line = told.value.to_vec(alloc)?;
     line.push(b'\n')?;
-    Ok(TextLine { line, is_test })
+    Ok(TextLine {
+        line,
+        is_test: told.is_test,
+    })
 }

@@ -1,4 +1,4 @@
-use Rattle.std.proofs.Common.{rules, ◌≡◌, ◌++◌, [], ◌∷◌, true, false, map, ap, sym, ◌∙◌, append-nil}
+use Rattle.std.proofs.Common.{rules, ◌++◌, [], ◌∷◌, true, false, map, ap, sym, ◌∙◌, append-nil}
 use Rattle.std.proofs.lemmas.List.{map-append}
 use Rattle.serde_json.specs.View.{view}
 use Rattle.serde_json.specs.declared.value.Value.{the_lemmas}
