@@ -7,6 +7,7 @@ const os = require('os');
 const path = require('path');
 const { spawn } = require('child_process');
 const { parseArgs } = require('util');
+const { Failure } = require('./failure.js');
 const { Fault, messageOf, plain } = require('./lines.js');
 const { limits } = require('./limits.js');
 const { VARIABLE } = require('./processes.js');
@@ -16,13 +17,6 @@ const { givenWords, pathOf } = require('./words.js');
 const TOP = path.resolve(__dirname, '..', '..');
 const JSLIT = path.join(TOP, 'bin', 'jslit');
 const SIGNALS = { SIGHUP: 129, SIGINT: 130, SIGQUIT: 131, SIGTERM: 143 };
-
-class Failure extends Error {
-  constructor(status, message) {
-    super(message);
-    this.status = status;
-  }
-}
 
 // The words of a command: options with a value each, flags (whose value is false here), lists of what an option is given again and again,
 // and paths. Behind `--` all are paths.

@@ -2,10 +2,11 @@
 import pathlib
 import shutil
 import subprocess
+import sys
 
 from litmus.ends import shown
 from litmus.fault import Fault
-from litmus.program import TOP
+from litmus.program import TOP, Awaited
 
 
 def kit():
@@ -23,11 +24,12 @@ def ran(*words, **more):
 
 
 def need(*pairs):
-    subprocess.run([TOP / "tools" / "need", *pairs], check=True)
+    if subprocess.run([TOP / "tools" / "need", *pairs]).returncode:
+        raise Fault(f"these packages of Debian's are needed: {', '.join(pair.partition('=')[2] for pair in pairs)}")
 
 
 def proved(made, name):
     """What tools/build-program makes, of the sources as they stand: proved and built first where that is due."""
-    if subprocess.run([TOP / "tools" / "build-program", made, name]).returncode:
+    if Awaited(TOP / "tools" / "build-program", made, name, stdout=sys.stdout.fileno()).status:
         raise Fault(f"{shown(name)} can't be built")
     return made

@@ -3,18 +3,22 @@
 The toolchain's own target for WebAssembly refuses calls of C, and so a heap. So the module's text is given that target (`retargeted`) and
 compiled by the toolchain's clang beside a heap of the module's own; rattle-link links both, for a memory with 64-bit addresses, and
 binaryen makes these 32 bits wide, which all engines run."""
+import fcntl
+import hashlib
 import json
 import pathlib
 import re
+import subprocess
 import tempfile
 
 from building.kit import kit, ran
 from embedding import library
-from installing.place import New
+from installing.place import New, replace
 from litmus.fault import Fault
 from litmus.program import TOP, version
 
 NEEDS = ("wasm-opt=binaryen", "ar=binutils")
+HEAP = TOP / "embed" / "module" / "heap.c"
 STACK = 8 << 20
 LAYOUT = "e-m:e-p:64:64-p10:8:8-p20:8:8-i64:64-i128:128-n32:64-S128-ni:1:10:20"
 TARGET = "wasm64-unknown-unknown"
@@ -88,21 +92,34 @@ def compiled(folder):
     ran(clang, *AS_TEXT, "-x", "ir", library.MODULE, "-o", text)
     text.write_text(retargeted(text.read_text()))
     ran(clang, *COMPILE, "-x", "ir", text, "-o", folder / "module.o")
-    ran(clang, *COMPILE, "-ffreestanding", "-nostdinc", "-x", "c", TOP / "embed/module/heap.c", "-o", folder / "heap.o")
+    ran(clang, *COMPILE, "-ffreestanding", "-nostdinc", "-x", "c", HEAP, "-o", folder / "heap.o")
     ran("ar", "rcsD", "whole.a", "module.o", "heap.o", cwd=folder)
     made = folder / "wide.wasm"
     ran(link, "--target", TARGET, "--toolchain", kit() / "toolchain", "--stack", str(STACK), "-o", made, folder / "whole.a")
     return made.read_bytes()
 
 
-def made():
+def narrowed():
     """The module with 32-bit addresses."""
-    library.made()
     with tempfile.TemporaryDirectory() as name:
         folder = pathlib.Path(name)
         (folder / "wide.wasm").write_bytes(with_narrow_table(compiled(folder)))
         ran("wasm-opt", *FEATURES, "--memory64-lowering", "-O3", folder / "wide.wasm", "-o", folder / "jslit.wasm")
         return (folder / "jslit.wasm").read_bytes()
+
+
+def made():
+    """The same of the sources as they stand. It is kept beside what it is made of, under a digest of that and of the tools."""
+    library.made()
+    sources = [library.MODULE, HEAP, pathlib.Path(__file__), kit() / "KIT-ID"]
+    tools = subprocess.run(["wasm-opt", "--version"], capture_output=True).stdout
+    digest = hashlib.sha256(b"".join([tools, *(path.read_bytes() for path in sources)])).hexdigest()
+    kept = library.MODULE.with_name(f"{digest}.wasm")
+    with open(library.MODULE) as turn:
+        fcntl.flock(turn, fcntl.LOCK_EX)
+        if not kept.exists():
+            replace(kept, New(narrowed()))
+        return kept.read_bytes()
 
 
 def files(addresses):

@@ -1,4 +1,4 @@
-"""What is put where below a prefix: the programs, the commands with what they need, man pages, and completions."""
+"""What is put where below a prefix: the programs, the commands with what they need, the page, man pages, and completions."""
 import os
 import pathlib
 
@@ -20,10 +20,11 @@ def files_of(name):
     return [each for each in found if each.is_file() and "__pycache__" not in each.parts]
 
 
-def new_files(own):
-    """What is put where, by its name below the prefix. `own` has the programs."""
+def new_files(own, site):
+    """What is put where, by its name below the prefix. `own` has the programs, `site` the files of the page."""
     needed = (path for name in NEEDED for path in files_of(name))
     new = {f"{TREE}/{path.relative_to(TOP)}": New(path.read_bytes(), os.access(path, os.X_OK)) for path in needed}
+    new |= {f"{TREE}/site/{name}": New(data) for name, data in site.items()}
     for name, path in own.items():
         new[f"{TREE}/libexec/{name}"] = New(pathlib.Path(path).read_bytes(), runs=True)
     commands = [Command(name, own.get(name, TOP / "bin" / name)) for name in COMMANDS]

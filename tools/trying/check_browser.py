@@ -1,103 +1,23 @@
 """What tools/check-page asks of the page in a browser."""
-import contextlib
 import json
-import urllib.parse
 
-from trying import check_javascript
-from trying.browser import Browser
-from trying.check_reasons import asked_why, raced
+from trying import check_answers, check_javascript
+from trying.check_limits import beyond_memory, ended, large, without_workers
+from trying.check_links import linked, linked_plainly
+from trying.check_reasons import asked_why, raced, reasons
 from trying.check_saved import documents, opened, saved
-from trying.check_server import children, wait_for
-from trying.serving import feigned, litmus, named, same, served
-
-TOLD = "document.querySelector('#verdict.is-told')"
-DRAWN = "document.querySelector('#picture svg') && document.querySelector('#picture').getAttribute('aria-busy') === 'false'"
-WIDE = "document.documentElement.scrollWidth > document.documentElement.clientWidth"
+from trying.page import WIDE, with_page
+from trying.serving import by_command, by_nobody, feigned, litmus, plainly, same
 
 
-class Page(Browser):
-    """A browser with the page of a server, and a folder for pictures of it or None."""
-
-    def __init__(self, server, shots):
-        super().__init__()
-        self.server, self.shots = server, shots
-
-    def start(self):
-        self.open(self.server.address)
-
-    def take(self, text):
-        """Writes the text as a user does, in place of the one that stands there."""
-        self.value("document.querySelector('#text').focus(); document.querySelector('#text').select()")
-        self.type(text)
-        same(self.value("document.querySelector('#text').value"), text)
-
-    def choose(self, selector, value):
-        self.value(f"(() => {{ const e = document.querySelector({json.dumps(selector)}); e.value = {json.dumps(value)};"
-                   "e.dispatchEvent(new Event('change', {bubbles: true})); })()")
-
-    def run(self):
-        self.click("#run")
-        self.told()
-
-    def drawn(self):
-        self.until(DRAWN)
-
-    def focused(self):
-        return self.value("document.activeElement.id || document.activeElement.dataset.agent || document.activeElement.innerText")
-
-    def tab_to(self, name):
-        """Presses Tab until the element of this name has the focus."""
-        for _ in range(40):
-            self.key("Tab")
-            if self.focused() == name:
-                return
-        raise AssertionError(f"{name} is never reached")
-
-    def told(self):
-        self.until(TOLD)
-
-    def text(self):
-        return self.value("document.querySelector('#text').value")
-
-    def open_link(self, selector):
-        self.value("document.documentElement.dataset.left = 'yes'")
-        self.click(selector)
-        self.until("!document.documentElement.dataset.left && document.readyState === 'complete'")
-
-    def said(self, selector):
-        return self.value(f"document.querySelector({json.dumps(selector)}).innerText")
-
-    def rows(self):
-        return self.value("[...document.querySelectorAll('tbody tr')].map((row) => [...row.cells].map((cell) => cell.innerText).join(' '))")
-
-    def picture(self, name):
-        if self.shots:
-            self.shots.mkdir(parents=True, exist_ok=True)
-            self.shot(str(self.shots / f"{name}.png"))
-
-    def faults(self):
-        """What went wrong in the page, and requests to anywhere else."""
-        self.value("1")
-        wrong = [event["params"] for event in self.events if event["method"] in ("Runtime.exceptionThrown", "Runtime.consoleAPICalled")
-                 or event["method"] == "Log.entryAdded" and event["params"]["entry"]["level"] in ("error", "warning")]
-        asked = [event["params"]["request"]["url"] for event in self.events if event["method"] == "Network.requestWillBeSent"]
-        return wrong + [url for url in asked if not url.startswith(self.server.address)]
-
-
-def cases(program, shots):
+def cases(site, shots):
     """Names and functions; each has a browser and a server of its own."""
-    def on(case, make):
-        return lambda: with_page(case, make, shots)
+    def on(case, serving, folder):
+        return lambda: with_page(case, site, serving, folder, shots)
 
-    return ([(f"page, {case.__name__}", on(case, lambda: served(program))) for case in PROVED] +
-            [(f"page, {case.__name__}", on(case, feigned)) for case in FEIGNED])
-
-
-def with_page(case, make, shots):
-    with make() as server, contextlib.closing(Page(server, shots)) as page:
-        page.start()
-        case(page)
-        same(page.faults(), [])
+    real = [(case, plainly) for case in SERVED] + [(everyday, by_command), (everyday, by_nobody), (a_program, by_nobody)]
+    return ([(f"page, {case.__name__} {serving.__name__}", on(case, serving, site.folder)) for case, serving in real] +
+            [(f"page, {case.__name__}", on(case, plainly, feigned(site.folder))) for case in FEIGNED])
 
 
 def store_buffering(page):
@@ -109,7 +29,7 @@ def store_buffering(page):
     same(page.said("#shown"), "shown: 3")
     same(page.rows(), ["1 doesn\u2019t meet 0 1", "2 doesn\u2019t meet 1 0", "3 doesn\u2019t meet 1 1"])
     page.click("tbody tr:nth-child(2)")
-    page.until(DRAWN)
+    page.drawn()
     same(page.said("#example-title"), "Outcome 2: A.r0=1 B.r0=0")
     same(page.said("#lines"), "outcome A.r0=1 B.r0=0\n  from A.1 B.0\n  from B.1 init[0]\n  order init[0..1] B.0 B.1 A.0 A.1")
     same(page.value("document.querySelector('#picture [data-name=\"A.1\"]').textContent"), "r0 = Atomics.load(U8, 1)A.1 #5 = 1")
@@ -125,7 +45,7 @@ def tearing(page):
     page.choose("#library", "tear")
     page.run()
     page.click("tbody tr:nth-child(2)")
-    page.until(DRAWN)
+    page.drawn()
     labels = page.value("[...document.querySelectorAll('#picture g.reads text')].map((text) => text.textContent)")
     same(sorted(labels), ["byte 0", "byte 1"])
     same(page.value("document.querySelector('.key .race').hidden"), False)
@@ -169,11 +89,11 @@ def refused(page):
 def quick(page):
     page.take(litmus("sbplain"))
     page.click("#quick")
-    page.until(TOLD)
+    page.told()
     same(page.said("#verdict strong"), "sbplain: verdict sometimes")
     same([row.split()[1:3] for row in page.rows()], [["\u2713", "meets"], ["doesn\u2019t", "meet"]])
     page.click("tbody tr")
-    page.until(DRAWN)
+    page.drawn()
     assert page.said("#lines").startswith("met outcome A.r0=0 B.r0=0\n")
     page.take(litmus("sb"))
     same(page.said("#stale"), "of the text before it was changed")
@@ -195,7 +115,7 @@ def turns(page):
     page.picture("turns")
     page.choose("#filter-1", "0")
     page.click("#turns button")
-    page.until(DRAWN)
+    page.drawn()
     same(page.said("#example-title"), "Outcome 3: A.r0=1 B.r0=1")
     same(len(page.rows()), 3)
     page.click("#undo")
@@ -205,27 +125,10 @@ def turns(page):
     same(page.value("document.querySelector('#undo').disabled && document.querySelector('#clear').disabled"), True)
 
 
-def linked(page):
-    text = litmus("lb") + "// caf\u00e9 <b>&amp;\n"
-    page.take(text)
-    page.until("location.hash.startsWith('#t=')")
-    page.until("atob(location.hash.slice(3).replaceAll('-', '+').replaceAll('_', '/')).includes('caf')")
-    address = page.value("location.href")
-    page.open(address)
-    same(page.value("document.querySelector('#text').value"), text)
-    assert not any("t=" in urllib.parse.urlsplit(event["params"]["request"]["url"]).query for event in page.events
-                   if event["method"] == "Network.requestWillBeSent"), "the text was sent with the address"
-    page.choose("#library", "sb")
-    page.value("history.back()")
-    page.until(f"document.querySelector('#text').value === {json.dumps(text)}")
-    page.value("location.hash = '#t=%%%'")
-    page.until("document.querySelector('#verdict').innerText.includes('no text that can be read')")
-
-
 def by_keyboard(page):
     page.take(litmus("tear"))
     page.key("Enter", control=True)
-    page.until(TOLD)
+    page.told()
     seen = []
     while "sort-1" not in seen:
         page.key("Tab")
@@ -243,7 +146,7 @@ def by_keyboard(page):
     outline = page.value("getComputedStyle(document.activeElement).outlineStyle + getComputedStyle(document.activeElement).outlineWidth")
     same(outline, "solid3px")
     page.key("Enter")
-    page.until(DRAWN)
+    page.drawn()
     same(page.said("#example-title"), "Outcome 2: C.r0=1")
     same(page.focused(), "2")
     for name in ("save-all", "save-outcomes", "fit", "save-svg", "save-png", "picture", "lines"):
@@ -256,7 +159,7 @@ def narrow_and_dark(page):
     page.choose("#library", "sb8")
     page.run()
     page.click("tbody tr:nth-child(3) button")
-    page.until(DRAWN)
+    page.drawn()
     same(page.value(WIDE), False)
     same(page.value("document.querySelector('#picture').scrollWidth > document.querySelector('#picture').clientWidth"), False)
     page.click("#fit")
@@ -333,6 +236,9 @@ def noted(page):
     page.choose("#library", "sb")
     page.run()
     same(page.value("document.querySelector('#notes').hidden"), True)
+    page.choose("#library", "seqlock-words")
+    page.run()
+    page.until("document.querySelector('#notes').innerText.includes('so it is in those of outcomes 5, 6, 7, 8, 9, 10 and others')")
 
 
 def folded(page):
@@ -350,46 +256,30 @@ def folded(page):
     page.picture("syntax")
 
 
-def long_run(page):
-    page.take(named("long"))
+def everyday(page):
+    """A test is written, run, and shown, with why, a race, a refusal with advice, and a link."""
+    store_buffering(page)
+    page.click("#show-why")
+    page.until("document.querySelector('#lines').innerText.endsWith('so A.0 before itself')")
+    page.take(litmus("mpplain").replace("U8[0] = 1", "U8[0] = 1;"))
     page.click("#run")
-    page.until("!document.querySelector('#stop').disabled")
-    wait_for(lambda: children(page.server))
-    page.click("#stop")
-    page.until("document.querySelector('#verdict').innerText.includes('as you asked')")
-    wait_for(lambda: not children(page.server))
-    page.click("#run")
-    page.until("document.querySelector('#verdict.is-stopped #offered')")
-    assert "Stopped at the limit of 10 seconds" in page.said("#verdict")
-    page.picture("long")
-    page.take(named("short"))
+    page.until("document.querySelector('#take')")
+    page.click("#take")
     page.run()
-    same(page.said("#race"), "data race no")
+    page.click("#show-race")
+    page.drawn()
+    same(page.said("#lines").split("\n")[0], "mpplain: the first data race")
+    page.open(page.link())
+    same(page.text(), litmus("mpplain"))
 
 
-def large(page):
-    page.take(named("large"))
-    page.run()
-    same(page.said("#shown"), "shown: the first 1,000 of 20,000")
-    same(len(page.rows()), 1000)
-    page.click("#after")
-    page.until("document.querySelector('#shown').innerText.includes('1,001 to 2,000 of 20,000')")
-    same(page.rows()[0].split()[::3], ["1,001", "1000"])
-    page.click("#before")
-    page.until("document.querySelector('#shown').innerText.includes('the first 1,000')")
-    page.value("document.querySelector('#text').value = 'x'.repeat(65537); document.querySelector('#text').dispatchEvent(new Event('input'))")
-    page.click("#run")
-    page.until("document.querySelector('#verdict').innerText.includes('65,537 bytes, and 65,536 at most')")
+def a_program(page):
+    """JavaScript is run too."""
+    check_javascript.run(page, check_javascript.HEAD + check_javascript.AGENTS)
+    assert check_javascript.ANSWER in check_javascript.printed(page), check_javascript.printed(page)
 
 
-def without_server(page):
-    page.server.process.terminate()
-    page.server.process.wait(10)
-    page.click("#run")
-    page.until("document.querySelector('#verdict').innerText.includes('doesn\u2019t answer')")
-    page.events.clear()
-
-
-PROVED = (store_buffering, tearing, sorted_and_filtered, refused, quick, turns, linked, by_keyboard, narrow_and_dark, named_for_all, faults,
-          noted, raced, asked_why, folded, saved, documents, opened, *check_javascript.CASES)
-FEIGNED = (long_run, large, without_server)
+SERVED = (everyday, store_buffering, tearing, sorted_and_filtered, refused, quick, turns, linked, linked_plainly, by_keyboard,
+          narrow_and_dark, named_for_all, faults, pasted, noted, raced, asked_why, reasons, folded, saved, documents, opened, large,
+          beyond_memory, without_workers, *check_answers.CASES, *check_javascript.CASES)
+FEIGNED = (ended,)

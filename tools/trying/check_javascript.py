@@ -7,10 +7,9 @@ import pathlib
 import re
 import subprocess
 import tempfile
-import threading
 
 from litmus.program import TOP
-from trying.serving import litmus, same
+from trying.serving import answering, same
 
 SAMPLES = TOP / "shared" / "javascript" / "js" / "samples"
 ENDED = "document.querySelector('#verdict.is-told, #verdict.is-failed, #verdict.is-stopped')"
@@ -35,7 +34,7 @@ def by_command(page, code, *words, use=None):
         given[0].write_text(code)
         given[1].write_text(use or "")
         harness = ["--use", given[1]] if use else []
-        return subprocess.run([TOP / "bin" / "jslit-js", "--program", page.server.program, *words, *harness, given[0]],
+        return subprocess.run([TOP / "bin" / "jslit-js", "--program", page.program, *words, *harness, given[0]],
                               capture_output=True, text=True).stdout
 
 
@@ -96,7 +95,7 @@ def linked_program(page):
     """A link holds the code, its language and its harness."""
     code, use = ((SAMPLES / name).read_text() for name in ("peterson.js", "peterson.use.js"))
     packed = [base64.urlsafe_b64encode(text.encode()).decode().rstrip("=") for text in (code, use)]
-    page.open(f"{page.server.address}#js={packed[0]}&use={packed[1]}")
+    page.open(f"{page.address}#js={packed[0]}&use={packed[1]}")
     same(page.text(), code)
     same(page.value("document.querySelector('#use').value"), use)
     same(page.value("document.documentElement.dataset.language + document.querySelector('#verdict').className"), "javascriptis-nothing")
@@ -126,14 +125,8 @@ def listening():
         def log_message(self, *_):
             """Nothing."""
 
-    with http.server.ThreadingHTTPServer(("127.0.0.1", 0), Handler) as server:
-        thread = threading.Thread(target=server.serve_forever)
-        thread.start()
-        try:
-            yield f"http://127.0.0.1:{server.server_port}/", seen
-        finally:
-            server.shutdown()
-            thread.join()
+    with answering(Handler) as address:
+        yield address, seen
 
 
 def hostile(page):
@@ -191,24 +184,21 @@ def frame_that_is_gone(page):
     assert ANSWER in printed(page)
 
 
-def asked_for_javascript(server):
-    """The frame and its policy, and what the page asks for the code: values of outcomes, and executions."""
-    status, headers, body = server.ask("GET", "/sandbox.html")
-    same(status, 200)
-    policy = headers["Content-Security-Policy"].split("; ")
-    same([part for part in policy if not part.startswith("script-src")],
-         ["default-src 'none'", "worker-src blob:", "frame-ancestors 'self'", "sandbox allow-scripts"])
-    script = re.search(rb"<script>(.*)</script>", body, re.S)[1]
-    digest = base64.b64encode(hashlib.sha256(script).digest()).decode()
-    assert f"script-src 'sha256-{digest}' 'unsafe-eval'" in policy, policy
-    same(server.post("values", litmus("sb"))[1],
-         {"kind": "values", "registers": ["A.r0", "B.r0"], "outcomes": [[0, 1], [1, 0], [1, 1]], "race": False})
-    same(server.post("values", "test t\n")[1], {"kind": "values", "refused": 12})
-    same([each["clause"] for each in server.post("execution", litmus("sb"), sources="")[1]["why"]["clauses"]], ["memory-order"])
-    same(server.post("execution", litmus("sb"), sources="A.1=B.0 B.1=init[0]")[1]["why"]["execution"]["order"],
-         ["init[0]", "init[1]", "B.0", "B.1", "A.0", "A.1"])
-    assert server.post("execution", "test t\n", sources="")[1]["why"]["refused"].startswith("the text: refused 12"), "it isn't refused"
-    same(server.post("execution", litmus("sb"), sources="--race")[1]["kind"], "failed")
+def framed(page):
+    """The frame's policy allows its own script, and no network; a frame that has an origin starts no worker."""
+    body = (page.site.folder / "sandbox.html").read_text()
+    policy = re.search('<meta http-equiv="Content-Security-Policy" content="([^"]*)">', body)[1]
+    digest = base64.b64encode(hashlib.sha256(re.search("<script>(.*)</script>", body, re.S)[1].encode()).digest()).decode()
+    same(policy.split("; "), ["default-src 'none'", f"script-src 'sha256-{digest}' 'unsafe-eval'", "worker-src blob:"])
+    page.value("""(() => { const frame = document.createElement('iframe'); frame.src = 'sandbox.html'; frame.onload = () => {
+      const [work, life] = [new MessageChannel(), new MessageChannel()];
+      life.port1.onmessage = () => { window.lives = true; };
+      frame.contentWindow.postMessage(null, '*', [work.port2, life.port2]);
+      life.port1.postMessage(null);
+      setTimeout(() => { window.waited = true; }, 500);
+    }; document.body.append(frame); })()""")
+    page.until("window.waited")
+    same(page.value("window.lives === undefined"), True)
 
 
-CASES = (programs, linked_program, hostile, nothing_of_the_browser, frame_that_is_gone)
+CASES = (framed, programs, linked_program, hostile, nothing_of_the_browser, frame_that_is_gone)

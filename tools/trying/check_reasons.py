@@ -1,24 +1,25 @@
-"""What tools/check-page asks of why a text has no outcome of a kind, and of its first data race: of the server, and in a browser."""
+"""What tools/check-page asks of why a text has no outcome of a kind, and of its first data race: of the page's worker, and of the page."""
+from trying.check_answers import answer
 from trying.serving import litmus, same
 
 
-def reasons(server):
+def reasons(page):
     """Why there is no outcome, and the first data race: in a picture and in words; and what has neither."""
-    drawn = server.post("why", litmus("sb"), outcomes="met")[1]
+    drawn = answer(page, "why", litmus("sb"), unmet=False)
     same(drawn["lines"][:5], ["sb: never, 1 attempt", "refused by memory-order (29.7.4 sequentially consistent atomics)",
                               "from A.1 init[1]", "from B.1 init[0]", "1. A.0 before A.1: agent-order"])
     same(sorted(edge["kind"] for edge in drawn["edges"] if edge["arrow"]), ["reads"] * 2 + ["step"] * 4)
-    same(server.post("why", litmus("own"), outcomes="unmet")[1]["lines"][0], "own: always, 1 attempt")
-    same(server.post("why", litmus("mask"), outcomes="unmet")[1],
+    same(answer(page, "why", litmus("own"), unmet=True)["lines"][0], "own: always, 1 attempt")
+    same(answer(page, "why", litmus("mask"), unmet=True),
          {"kind": "failed", "said": "always: there is no attempt, since no path can make B.r0 != 0 true"})
-    same(server.post("why", "test t\n", outcomes="met")[1]["refused"], "refused 12 missing_part line 1")
-    drawn = server.post("race", litmus("mpplain"))[1]
+    same(answer(page, "why", "test t\n", unmet=False)["refused"], "refused 12 missing_part line 1")
+    drawn = answer(page, "race", litmus("mpplain"))
     same(drawn["lines"], ["mpplain: the first data race", "data race of A.0 and B.1", "from B.0 init[1]", "from B.1 A.0",
                           "order init[0] init[1] A.0 A.1 B.0 B.1", "data race A.0 and B.1", "A.0 writes byte 0", "B.1 reads byte 0",
                           "neither happens before the other", "neither is sequentially consistent"])
     same([edge["arrow"] for edge in drawn["edges"] if edge["kind"] == "least"], [False] * 2)
-    same(server.post("race", litmus("sb"))[1], {"kind": "failed", "said": "no execution has a data race"})
-    told = server.post("report", litmus("mpplain"), skip=0)[1]["racing"]
+    same(answer(page, "race", litmus("sb")), {"kind": "failed", "said": "no execution has a data race"})
+    told = answer(page, "racing", litmus("mpplain"))["pairs"]
     same(told, [[{"name": "A.0", "line": 7, "code": "U8[0] = 1"}, {"name": "B.1", "line": 11, "code": "r1 = U8[0]"}]])
 
 
@@ -27,6 +28,7 @@ def raced(page):
     page.take(litmus("mpplain"))
     page.run()
     same(page.said("#race"), "data race yes")
+    page.until("document.querySelector('#racing').innerText.startsWith('as in')")
     same(page.said("#racing"), "as in the first execution with one: U8[0] = 1 (A.0, line 7) and r1 = U8[0] (B.1, line 11)")
     same(page.value("document.querySelector('#show-why')"), None)
     page.value("document.querySelector('#run').focus()")

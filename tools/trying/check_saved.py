@@ -1,4 +1,4 @@
-"""What tools/check-page asks of what the page saves, and of the documents that it serves."""
+"""What tools/check-page asks of what the page saves, and of the documents beside it."""
 import math
 import pathlib
 import re
@@ -8,8 +8,7 @@ import tempfile
 import xml.dom.minidom
 
 from litmus.program import TOP
-from trying.check_server import wait_for
-from trying.serving import litmus, same
+from trying.serving import litmus, same, wait_for
 
 
 def saved(page):
@@ -34,7 +33,7 @@ def saved(page):
     same(files["save-outcomes"].decode(), "test mpplain\n"
          "outcome B.r0=0 B.r1=0\noutcome B.r0=0 B.r1=1\noutcome B.r0=1 B.r1=0\noutcome B.r0=1 B.r1=1\n"
          "outcomes 4\nverdict sometimes\ndata race yes\n")
-    same(files["save-all"], subprocess.run([page.server.program, TOP / "litmus" / "mpplain.lit"], capture_output=True, check=True).stdout)
+    same(files["save-all"], subprocess.run([page.program, TOP / "litmus" / "mpplain.lit"], capture_output=True, check=True).stdout)
     drawn = xml.dom.minidom.parseString(files["save-svg"])
     assert "r1 = U8[0]" in [text.firstChild.data for text in drawn.getElementsByTagName("text")]
     same(drawn.getElementsByTagName("rect")[0].getAttribute("fill"), "#fff")
@@ -46,12 +45,12 @@ def saved(page):
 
 def documents(page):
     """The documents, reached from the page, with their pictures, and a test of the library by a link in them."""
-    page.open_link("nav a[href='/doc/docs/MODEL.md']")
+    page.open_link("nav a[href$='doc/docs/MODEL.html']")
     same(page.said("h1"), "The model")
     page.until("[...document.images].length && [...document.images].every((image) => image.complete && image.naturalWidth)")
     page.picture("model")
-    page.open_link("nav a[href='/doc/litmus/README.md']")
-    page.open_link("main a[href^='/#t=']")
+    page.open_link("nav a[href$='doc/litmus/README.html']")
+    page.open_link("main a[href*='index.html#t=']")
     page.until("document.documentElement.dataset.ready === 'yes'")
     page.run()
 
@@ -67,7 +66,7 @@ def opened(page):
     texts = [text for kind, text in blocks if kind != "console" and re.search(r"^test \w+\nbytes|^agents\(", text, re.M)]
     same(len(texts), len(OPENED))
     for place, (text, told) in enumerate(zip(texts, OPENED)):
-        page.open_link("nav a[href='/doc/docs/TUTORIAL.md']")
+        page.open_link("nav a[href$='doc/docs/TUTORIAL.html']")
         links = page.value("[...document.querySelectorAll('.open a')].map((each) => each.getAttribute('href'))")
         same(len(links), len(texts))
         page.open_link(f".open a[href='{links[place]}']")

@@ -1,58 +1,24 @@
-"""A server of the page for a check, and requests to it."""
+"""The page's site served for a check, by Python's own server of files and by jslit-page; and texts for it."""
 import contextlib
+import functools
 import http.client
+import http.server
 import json
-import pathlib
-import socket
-import stat
+import shutil
 import subprocess
-import sys
-import tempfile
+import threading
 import time
 import urllib.parse
 
 from litmus.program import TOP
 
-# A program that does what a text's name says, and else gives one outcome.
-FEIGNED = """#!/usr/bin/env python3
-import os, sys, time
-words = sys.stdin.read().split() if len(sys.argv) < 2 or sys.argv[1] != "--help" else ["test", "help"]
-name = words[1]
-if name == "large":
-    sys.stdout.write("test large\\n")
-    example = "  from A.0 " + " ".join(["init[0]"] * 200) + "\\n  order init[0] A.0\\n"
-    for value in range(20000):
-        sys.stdout.write(f"outcome A.r0={value}\\n{example}")
-    sys.stdout.write("outcomes 20000\\nverdict sometimes\\ndata race yes\\n")
-elif name == "hungry":
-    try:
-        bytearray(800 << 20)
-    except MemoryError:
-        sys.stderr.write("out_of_memory\\n")
-        sys.exit(3)
-elif name == "long":
-    time.sleep(3600)
-elif name == "breaks":
-    sys.stdout.write("test breaks\\noutcome A.r0=1")
-elif name == "dies":
-    os.abort()
-else:
-    sys.stdout.write(f"test {name}\\noutcome A.r0=0\\n  from A.0 init[0]\\n  order init[0] A.0\\noutcomes 1\\nverdict always\\ndata race no\\n")
-"""
-
-
-# jslit-page where the first threads can't be started.
-REFUSING = """import runpy, sys, threading
-start, left = threading.Thread.start, [int(sys.argv[1])]
-def refusing(thread):
-    left[0] -= 1
-    if left[0] >= 0:
-        raise RuntimeError("can't start new thread")
-    start(thread)
-threading.Thread.start = refusing
-page = sys.argv[2]
-sys.argv[1:] = sys.argv[3:]
-runpy.run_path(page, run_name="__main__")
+# What stands before the worker's script in a site that is feigned: it does what a text's name says, and else leaves the text to the engine.
+FEIGNED = """addEventListener('message', (event) => {
+  const [, name] = event.data.asked.text.split(/\\s+/);
+  if (name === 'dies') throw new Error('the end');
+  if (name === 'long') while (true);
+  if (name === 'traps') WebAssembly.Instance = class { constructor() { throw new WebAssembly.RuntimeError('unreachable'); } };
+});
 """
 
 
@@ -60,77 +26,74 @@ def named(name):
     return f"test {name}\nbytes 1\nagent A\nr0 = U8[0]\ncheck A.r0 == 0\n"
 
 
-class Served:
-    def __init__(self, program, process, address):
-        self.program, self.process, self.address = program, process, address
-        self.port = urllib.parse.urlsplit(address).port
+def reads(count, writers):
+    """A test of plain reads of one byte, each of which may see the first zero or the store of any writer."""
+    return ("test many\nbytes 1\nagent R\n" + "".join(f"r{number} = U8[0]\n" for number in range(count)) +
+            "".join(f"agent {'ABCDEFG'[number]}\nU8[0] = {number + 1}\n" for number in range(writers)) + "check R.r0 == 0\n")
 
-    def ask(self, method, path, body=None, headers=None):
-        """The status, the headers by name, and the bytes of the answer."""
-        connection = http.client.HTTPConnection("127.0.0.1", self.port, timeout=30)
-        try:
-            connection.request(method, path, body, headers or {})
-            answer = connection.getresponse()
-            return answer.status, dict(answer.getheaders()), answer.read()
-        finally:
-            connection.close()
 
-    def post(self, kind, text, **words):
-        """The status, and the answer."""
-        path = f"/{kind}?{urllib.parse.urlencode(words)}" if words else f"/{kind}"
-        status, _, body = self.ask("POST", path, text.encode() if isinstance(text, str) else text)
-        return status, json.loads(body)
-
-    def raw(self, data, close=False):
-        """What comes back for these bytes."""
-        with socket.create_connection(("127.0.0.1", self.port), timeout=30) as connection:
-            connection.sendall(data)
-            if close:
-                return b""
-            pieces = []
-            while piece := connection.recv(65536):
-                pieces.append(piece)
-            return b"".join(pieces)
+class Quiet(http.server.SimpleHTTPRequestHandler):
+    def log_message(self, *_):
+        """Nothing."""
 
 
 @contextlib.contextmanager
-def served(program, refused=0):
-    """A server of the page, of whose threads the first so many are refused. It leaves nothing behind."""
-    page = [TOP / "shared/python", "page"]
-    start = [sys.executable, "-c", REFUSING, str(refused), *page] if refused else [TOP / "bin" / "jslit-page"]
-    process = subprocess.Popen([*start, "--port", "0", "--program", program], stdout=subprocess.PIPE, text=True)
+def answering(handler):
+    """The address of a server by this handler, which is ended."""
+    with http.server.ThreadingHTTPServer(("127.0.0.1", 0), handler) as server:
+        thread = threading.Thread(target=server.serve_forever)
+        thread.start()
+        try:
+            yield f"http://127.0.0.1:{server.server_port}/"
+        finally:
+            server.shutdown()
+            thread.join()
+
+
+@contextlib.contextmanager
+def plainly(folder):
+    """The address of the site in a folder, by a server that has files alone and this one among others."""
+    with answering(functools.partial(Quiet, directory=folder.parent)) as address:
+        yield f"{address}{urllib.parse.quote(folder.name)}/"
+
+
+@contextlib.contextmanager
+def by_command(folder):
+    """The same by jslit-page, which is ended by a signal."""
+    process = subprocess.Popen([TOP / "bin" / "jslit-page", "--port", "0", "--site", folder], stdout=subprocess.PIPE, text=True)
     try:
-        yield Served(program, process, process.stdout.readline().strip())
+        yield process.stdout.readline().strip()
     finally:
         process.terminate()
-        process.wait(10)
+        status = process.wait(10)
         process.stdout.close()
+    same(status, 0)
 
 
 @contextlib.contextmanager
-def feigned(refused=0):
-    """A server whose program is the feigned one, of which no process may be left."""
-    with tempfile.TemporaryDirectory() as folder:
-        program = pathlib.Path(folder) / "program"
-        program.write_text(FEIGNED)
-        program.chmod(stat.S_IRWXU)
-        with served(str(program), refused) as server:
-            yield server
-        end = time.monotonic() + 5
-        while left := named_in_proc(program):
-            assert time.monotonic() < end, f"{left} are left behind"
-            time.sleep(0.02)
+def by_nobody(folder):
+    """The same as a file."""
+    yield f"file://{urllib.parse.quote(str(folder))}/index.html"
 
 
-def named_in_proc(word):
-    """The processes that were started with this word."""
-    def words(process):
-        try:
-            return (process / "cmdline").read_bytes().split(b"\0")
-        except OSError:
-            return []  # it has ended
+def feigned(folder):
+    """A copy of the site beside it whose worker does what a text's name says."""
+    copy = folder.with_name("feigned")
+    if not copy.exists():
+        shutil.copytree(folder, copy)
+        before, _, told = (folder / "engine.js").read_text().partition("const engine = ")
+        engine = json.loads(told.rstrip(";\n"))
+        (copy / "engine.js").write_text(f"{before}const engine = {json.dumps({**engine, 'worker': FEIGNED + engine['worker']})};\n")
+    return copy
 
-    return [process.name for process in pathlib.Path("/proc").glob("[0-9]*") if str(word).encode() in words(process)]
+
+def asked(address, method, path):
+    """The status and the bytes of what comes back for a path as it stands."""
+    connection = http.client.HTTPConnection(urllib.parse.urlsplit(address).netloc, timeout=30)
+    with contextlib.closing(connection):
+        connection.request(method, path)
+        answer = connection.getresponse()
+        return answer.status, answer.read()
 
 
 def litmus(name):
@@ -139,3 +102,10 @@ def litmus(name):
 
 def same(seen, wanted):
     assert seen == wanted, f"{str(seen)[:300]} is not {str(wanted)[:300]}"
+
+
+def wait_for(holds, seconds=15):
+    end = time.monotonic() + seconds
+    while not holds():
+        assert time.monotonic() < end, "never"
+        time.sleep(0.02)

@@ -82,7 +82,7 @@ async function* more(printed, text, told, ask) {
     own = own && given.write !== null;
     seen.add(key);
     mended.put(given.write === null ? number : given.from, given.lines, instead);
-    const other = await ask(Buffer.from(mended.text(), 'latin1'));
+    const other = await ask(mended.text());
     said = { printed: other.fault && printedOf(other.fault), told: other };
   }
 }

@@ -15,6 +15,10 @@ const FORMS = [
   'DV . setUint32 ( NUM , NUM , true )', 'if REG == NUM {', 'if REG != NUM {', '} else {', '}', 'check COND',
 ].map((form) => form.split(' '));
 
+// The calls of Atomics, and those of them that read.
+const CALLS = FORMS.flatMap((form) => (form.includes('Atomics') ? [form[form.indexOf('Atomics') + 2]] : []));
+const READING = CALLS.filter((call) => FORMS.some((form) => form[0] === 'REG' && form.includes(call)));
+
 // In a condition: what may stand, and what comes after it.
 const STATES = {
   unit: { '!': 'unit', '(': 'unit', NAME: 'dot' },
@@ -113,4 +117,4 @@ function linesOf(text) {
   return lines.length > 1 && lines[lines.length - 1] === '' ? lines.slice(0, -1) : lines;
 }
 
-module.exports = { begun, codeOf, columnOf, firstFault, linesOf, spoken, tokensOf };
+module.exports = { CALLS, READING, begun, codeOf, columnOf, firstFault, linesOf, spoken, tokensOf };

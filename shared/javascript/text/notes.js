@@ -4,7 +4,7 @@
 
 const { paths } = require('./counting.js');
 const { codeOf, linesOf } = require('./forms.js');
-const { branchesOf, comparisonsOf, eventsOf } = require('./tests.js');
+const { branchesOf, comparisonsOf, eventsOf, storedBy } = require('./tests.js');
 const { unread } = require('./unread.js');
 const { limits } = require('../limits.js');
 
@@ -37,8 +37,8 @@ function overlaps(test, codes) {
 // is stored there by other agents, or by its own agent before.
 function canRead(test, agent, event, number) {
   const stored = (byte) => test.agents.flatMap(({ name, statements }) => eventsOf(statements)
-    .filter((other) => other.writes !== null && other.bytes.includes(byte) && (name !== agent || other.line < event.line))
-    .map((other) => Math.floor(other.writes / 256 ** (byte - other.first)) % 256));
+    .filter((other) => other.bytes.includes(byte) && (name !== agent || other.line < event.line))
+    .flatMap((other) => storedBy(other, byte)));
   return number < 256 ** event.size && event.bytes.every((byte, place) => (
     [0, ...stored(byte)].includes(Math.floor(number / 256 ** place) % 256)));
 }

@@ -11,12 +11,11 @@ const { Scene } = require('./scene.js');
 const { Place, advice: slipsOf } = require('./slips.js');
 const structure = require('./structure.js');
 const { plain } = require('../lines.js');
+const { spelled } = require('../signs.js');
 
 const SEVERAL = 4;  // lines that an if may be written on
 
 const adviceOf = (line, column, said, write = null, lines = 1, from = line) => ({ line, column, said, write, lines, from });
-
-const utf8 = (text) => Buffer.from(text, 'latin1').toString('utf8');
 
 // What a text is that isn't one of this format at all, or null.
 function foreign(text) {
@@ -67,7 +66,7 @@ function syntax(lines, number, text, placeInText) {
   const found = firstFault(line);
   if (found === null) return adviceOf(number, null, []);
   const token = tokensOf(line)[found.place];
-  const what = token ? `\`${[...utf8(token.text)].slice(0, 40).join('')}\` can't stand here` : 'something is missing here';
+  const what = token ? `\`${[...spelled(token.text)].slice(0, 40).join('')}\` can't stand here` : 'something is missing here';
   const first = `${what}: ${spoken(found.could)} could`;
   const column = columnOf(line, found.place);
   const whole = foreign(text);

@@ -4,7 +4,7 @@
 // has a form. What stands in a match's place, and why, may be a function of the match and of the line's place in its text.
 
 const asking = require('./asking.js');
-const { codeOf, firstFault } = require('./forms.js');
+const { CALLS, READING, codeOf, firstFault } = require('./forms.js');
 const { WIDE } = require('./cells.js');
 const { QUESTION } = require('./scene.js');
 
@@ -45,7 +45,7 @@ const near = (word, words) => words.find((each) => distance(word.toLowerCase(), 
 
 function methodOf(word) {
   const name = word.replaceAll('_', '').toLowerCase();
-  return METHODS[name] ?? near(name, Object.values(METHODS));
+  return METHODS[name] ?? near(name, CALLS);
 }
 
 const method = (match) => (methodOf(match[1]) ? `Atomics.${methodOf(match[1])}(` : match[0]);
@@ -152,25 +152,28 @@ const VIEWS = [
   [/\b(?:Atomics\.)?(fence|mfence|barrier|atomic_thread_fence)\b/, null, 'there are no fences: only accesses through Atomics order anything'],
 ];
 const ALL_USED = 'what is read goes to a register, always, and this agent uses all eight: let one of them go';
-const FOUR = 'the accesses are Atomics.load, store, exchange and compareExchange';
+const EACH = CALLS.join('|');
+const READS = `(?:Atomics\\.(?:${READING.join('|')})\\(|DV\\.get|U(?:8|16|32)\\[\\d+\\]$)`;
+const MISSING = Object.keys(SIGNS_OF).filter((name) => !CALLS.includes(name)).join('|');
+const ACCESSES = `the accesses are Atomics.${CALLS.slice(0, -1).join(', ')} and ${CALLS[CALLS.length - 1]}`;
 const ARRAY = `(Atomics\\.\\w+\\()\\s*(?!U8\\b|U16\\b|U32\\b|${WIDE})([A-Za-z_]\\w*)\\s*,\\s*(\\d+)`;
 const ATOMICS = [
-  [/^(r\d\s*=\s*)?(load|store|exchange|compareExchange)\s*\(/, (m) => `${m[1] ?? ''}Atomics.${m[2]}(`, FOUR],
-  [/Atomics\.(load|store|exchange|compareExchange)\((?=\d)/, 'Atomics.$1(U8, ', 'array and index are two arguments'],
-  [/\b[aA]tomics?\s*(?:\.|::)\s*/, 'Atomics.', FOUR],
-  [/Atomics\.(add|sub|and|or|xor|increment|fetch_add|fetchAdd)\b/, null, operation],
+  [new RegExp(`^(r\\d\\s*=\\s*)?(${EACH})\\s*\\(`), (m) => `${m[1] ?? ''}Atomics.${m[2]}(`, ACCESSES],
+  [new RegExp(`Atomics\\.(${EACH})\\((?=\\d)`), 'Atomics.$1(U8, ', 'array and index are two arguments'],
+  [/\b[aA]tomics?\s*(?:\.|::)\s*/, 'Atomics.', ACCESSES],
+  [new RegExp(`Atomics\\.(${MISSING})\\b`), null, operation],
   [/Atomics\.isLockFree\b/, null, 'there is no Atomics.isLockFree: it accesses nothing, so leave it out'],
   [/Atomics\.(wait|waitAsync|notify|pause)\b/, null, 'there is no waiting and no waking: load the flag, and go on in an `if`'],
-  [/Atomics\.(\w+)\s*\(/, method, FOUR],
+  [/Atomics\.(\w+)\s*\(/, method, ACCESSES],
   [/Atomics\.(\w+)\(U(8|16|32)\[(\d+)\]/, 'Atomics.$1(U$2, $3', 'array and index are two arguments'],
   [new RegExp(ARRAY), argument, 'the array is U8, U16 or U32, views of the whole block: each name has cells of its own in it'],
   [new RegExp(ARRAY), null, (match, place) => place.scene.cells.why(match[2])],
   [new RegExp('^(?:U\\d+\\[\\d+\\]\\s*=|Atomics\\.store\\(U\\d+,\\s*\\d+,|DV\\.set\\w+\\(\\d+,)\\s*'
-    + '(U\\d+\\[\\d+\\]|(?:Atomics\\.(?:load|exchange|compareExchange)|DV\\.get\\w+)\\([^()]*\\))(?:, true)?\\)?$'), null,
+    + `(U\\d+\\[\\d+\\]|(?:Atomics\\.(?:${READING.join('|')})|DV\\.get\\w+)\\([^()]*\\))(?:, true)?\\)?$`), null,
   (match, place) => place.twoLines(match)],
-  [/^((?:Atomics\.(?:load|exchange|compareExchange)\(|DV\.get|U(?:8|16|32)\[\d+\]$).*)/, (m, place) => place.loads(m),
+  [new RegExp(`^(${READS}.*)`), (m, place) => place.loads(m),
     'what is read goes to a register, always'],
-  [/^(?:Atomics\.(?:load|exchange|compareExchange)\(|DV\.get|U(?:8|16|32)\[\d+\]$)/, null, ALL_USED],
+  [new RegExp(`^${READS}`), null, ALL_USED],
   [/^r\d\s*=\s*(Atomics\.store\(|DV\.set)/, '$1', 'a store leaves nothing in a register'],
   [/^r\d\s*=\s*U\d+\[\d+\]\s*=/, null, 'a store leaves nothing in a register: two lines'],
 ];

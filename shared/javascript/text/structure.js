@@ -4,6 +4,7 @@
 
 const { codeOf, tokensOf } = require('./forms.js');
 const { limits } = require('../limits.js');
+const { signsOf, spelled } = require('../signs.js');
 
 const wordsOf = (line) => tokensOf(line).map(({ text }) => text);
 
@@ -198,8 +199,8 @@ const isAllowed = (sign) => sign === '\t' || sign === '\r' || (sign >= ' ' && si
 function signAt(line, column) {
   const bytes = /^[\x80-\xff]+/.exec(line.slice(column, column + 8));
   if (!bytes) return null;
-  const sign = [...Buffer.from(bytes[0], 'latin1').toString('utf8')][0];
-  return sign === '\ufffd' && !bytes[0].startsWith(Buffer.from(sign).toString('latin1')) ? null : sign;
+  const sign = [...spelled(bytes[0])][0];
+  return sign === '\ufffd' && !bytes[0].startsWith(signsOf(sign)) ? null : sign;
 }
 
 // The line in ASCII, where each sign that isn't is a mark of bytes at its beginning, or has another in its place; else null.
@@ -210,7 +211,7 @@ function asciiOf(line) {
     const sign = isAllowed(rest[0]) ? rest[0] : signAt(rest, 0);
     if (sign === null || !(isAllowed(sign) || Object.hasOwn(PLAIN, sign))) return null;
     made += isAllowed(sign) ? sign : PLAIN[sign];
-    rest = rest.slice(isAllowed(sign) ? 1 : Buffer.byteLength(sign));
+    rest = rest.slice(isAllowed(sign) ? 1 : signsOf(sign).length);
   }
   return made;
 }

@@ -24,6 +24,9 @@ function eventOf(access) {
   };
 }
 
+// The values that an event may leave in a byte.
+const storedBy = ({ first, writes }, byte) => (writes === null ? [] : [Math.floor(writes / 256 ** (byte - first)) % 256]);
+
 const eventsOf = (statements) => accessesOf(statements).map(eventOf);
 
 // The events that make the block.
@@ -50,4 +53,4 @@ function walks(statements) {
 const comparisonsOf = (condition) => (condition.not ? comparisonsOf(condition.not)
   : (condition.all ?? condition.any)?.flatMap(comparisonsOf) ?? [condition]);
 
-module.exports = { accessesOf, branchesOf, comparisonsOf, decides, eventsOf, inits, isIf, registersOf, walks };
+module.exports = { accessesOf, branchesOf, comparisonsOf, decides, eventsOf, inits, isIf, registersOf, storedBy, walks };

@@ -36,7 +36,7 @@ import os
 
 from litmus import statuses
 from litmus.answers import Clock, Program
-from litmus.comparison import Comparison, lines_of, outcomes_of
+from litmus.comparison import Comparison, outcomes_of
 from litmus.ends import given_text, shown
 from litmus.program import TOP, built
 from litmus.runs import files_in, printed_name
@@ -66,10 +66,10 @@ def compared(path, limit, texts):
                 for name, only in ((before, pair.only_before), (after, pair.only_after)) if only]
         return DIFFER, [f"the registers differ: {'; '.join(map(shown, said))}"]
     added = pair.added()
-    counts = f"outcomes before {len(pair.before.examples)}, after {len(pair.after.examples)}, added {len(added)}"
+    counts = f"outcomes before {len(pair.before.lines)}, after {len(pair.after.lines)}, added {len(added)}"
     if not added:
         return ALLOWED, [f"allowed: {counts}"]
-    return NOT_ALLOWED, [f"not allowed: {counts}", *(line for example in added for line in lines_of(example))]
+    return NOT_ALLOWED, [f"not allowed: {counts}", *(line for lines in added for line in lines)]
 
 
 def texts_in(*names):

@@ -98,7 +98,7 @@ def made(path, limit, cycle):
         report = Program(path, Clock(limit)).report(name, text.encode())
     except Late:
         return Told(cycle, name, None, None)
-    answer = report.other["verdict"], report.other["count"], report.other["race"]
+    answer = report.last["verdict"], report.last["outcomes"], report.last["data race"]
     return Told(cycle, name, f"// {writer.cycle()}\n// expect: {spoken(answer)}\n{text}", answer)
 
 

@@ -9,9 +9,6 @@ from litmus.program import out_of_memory, silent
 from litmus.report import read_report
 from litmus.fault import Fault
 
-WHOLE = range(1 << 62)  # the places of all outcomes
-NONE = range(0)
-
 
 class Late(Fault):
     """The time ran out before the program had answered."""
@@ -39,15 +36,15 @@ class Program:
     def __init__(self, path, clock):
         self.path, self.clock, self.runs, self.lock = path, clock, 0, threading.Lock()
 
-    def report(self, name, data, *words, kept=NONE):
-        """The report on the text in `data`, which stands in the file of this name, with the outcomes in the places `kept`."""
+    def report(self, name, data, *words, keeps=False):
+        """The report on the text in `data`, which stands in the file of this name; where it `keeps` them, with the outcomes."""
         left, report = self.clock.left(name), None
         with self.lock:
             self.runs += 1
         try:
             with Run([self.path, *words], data, left) as run:
                 try:
-                    report = read_report(run.out, kept)
+                    report = read_report(run.out, keeps)
                 except Fault:
                     run.kill()
         except OSError as error:
@@ -59,11 +56,11 @@ class Program:
 
 def checked(path, name, report, run):
     """The report of an ended run, where it is one."""
-    if run.status == 1 and report and "refused" in report.other:
-        raise Fault(f"{shown(name)}: {report.other['refused']}; jslit-explain says more")
+    if run.status == 1 and report and "refused" in report.last:
+        raise Fault(f"{shown(name)}: refused {report.last['refused']}; jslit-explain says more")
     if run.status == 3:
         raise out_of_memory(name)
-    if run.status or not report or "verdict" not in report.other:
+    if run.status or not report or "verdict" not in report.last:
         told = run.said.decode("latin-1").strip() or f"status {run.status}, and no report"
         raise silent(path, f"{told}, on {name}")
     return report

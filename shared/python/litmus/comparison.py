@@ -1,20 +1,18 @@
 """Two texts by their outcomes: whether those of the one are among those of the other, by agent and register."""
 import dataclasses
 
-from litmus.answers import WHOLE
-
 
 @dataclasses.dataclass
 class Outcomes:
-    """The registers of a text, by agent, and its outcomes with their examples, each by the values of the sorted registers."""
+    """The registers of a text, by agent, and the lines of its outcomes, each by the values of the sorted registers."""
     registers: list
-    examples: dict
+    lines: dict
 
 
 def outcomes_of(program, name, data):
-    outcomes = program.report(name, data, kept=WHOLE).outcomes
-    registers = [register for register, _ in outcomes[0]["values"]] if outcomes else []
-    return Outcomes(registers, {tuple(value for _, value in sorted(each["values"])): each for each in outcomes})
+    outcomes = program.report(name, data, keeps=True).outcomes
+    registers = [register for register, _ in outcomes[0][0]] if outcomes else []
+    return Outcomes(registers, {tuple(value for _, value in sorted(values)): lines for values, lines in outcomes})
 
 
 class Comparison:
@@ -30,13 +28,5 @@ class Comparison:
         return bool(self.only_before or self.only_after)
 
     def added(self):
-        """The examples of the outcomes that only the text after the change has, as its report has them."""
-        return [example for values, example in self.after.examples.items() if values not in self.before.examples]
-
-
-def lines_of(example):
-    """An outcome with its example, in the lines of the report."""
-    yield "outcome " + " ".join(f"{name}={value}" for name, value in example["values"])
-    for event, sources in example["from"]:
-        yield f"  from {event} {' '.join(sources)}"
-    yield f"  order {' '.join(example['order'])}"
+        """The outcomes that only the text after the change has, in the lines of its report."""
+        return [lines for values, lines in self.after.lines.items() if values not in self.before.lines]

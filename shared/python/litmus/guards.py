@@ -14,19 +14,19 @@ class Question:
         self.program, self.name, self.accesses, self.known = program, name, accesses, {}
         self.whole = tuple(accesses.free)
         self.verdict = None if asked == "race" else self.answer(self.whole, "verdict")
-        self.left = asked == "both" and self.answer(self.whole, "race") == "yes"
+        self.left = asked == "both" and self.answer(self.whole, "data race") == "yes"
         self.race = asked != "verdict" and not self.left
 
     def answer(self, lines, what):
         """The verdict, or whether there is a data race."""
         if (lines, what) not in self.known:
             report = self.program.report(self.name, self.accesses.text_with(lines), *(["--quick"] if what == "verdict" else []))
-            self.known[lines, what] = report.other[what]
+            self.known[lines, what] = report.last[what]
         return self.known[lines, what]
 
     def enough(self, lines):
         lines = tuple(lines)
-        return (self.verdict is None or self.answer(lines, "verdict") == self.verdict) and (not self.race or self.answer(lines, "race") == "no")
+        return (self.verdict is None or self.answer(lines, "verdict") == self.verdict) and (not self.race or self.answer(lines, "data race") == "no")
 
     def wanted(self):
         """What is asked for, in words."""

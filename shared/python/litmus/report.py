@@ -1,73 +1,37 @@
-"""What the program prints, read line after line: of many outcomes a part alone is kept."""
+"""What the program prints on a text, read line after line."""
 import re
 
 from litmus.fault import Fault
 
-OUTCOME = re.compile(rb"(?:(met|unmet) )?outcome((?: \w+\.r[0-7]=\d+)*)")
-FROM = re.compile(rb"  from (\S+)((?: \S+)+)")
-LAST = {b"test": "test", b"verdict": "verdict", b"outcomes": "count", b"meets": "meets"}
+OUTCOME = re.compile(r"(?:met |unmet )?outcome((?: \w+\.r[0-7]=\d+)*)")
+LAST = re.compile("(test|outcomes|verdict|data race|refused) (.*)|(?:met|unmet) none")
 LONGEST = 65536
 
 
-def words(text):
-    return [word.decode("ascii") for word in text.split()]
-
-
-def values(text):
-    return [(name, int(value)) for name, value in (word.split("=") for word in words(text))]
-
-
 class Report:
-    """`outcomes` are those whose place, from 0, is in the range `part`; `other` has the other lines by what they say."""
+    """`last` has what is said behind the outcomes, by its words. Where it `keeps` outcomes, these are pairs of the values, by register, and
+    of the lines of the outcome with its example."""
 
-    def __init__(self, part):
-        self.part, self.place, self.outcomes, self.other, self.kept = part, 0, [], {}, None
+    def __init__(self, keeps):
+        self.keeps, self.outcomes, self.last = keeps, [], {}
 
     def take(self, line):
-        outcome = OUTCOME.fullmatch(line)
-        if outcome:
-            self.begin(*outcome.groups())
-        elif line.startswith(b"  "):
-            if self.kept is not None:
-                self.example(line)
-        else:
-            self.end(line)
-
-    def begin(self, group, given):
-        self.kept = None
-        if self.place in self.part:
-            self.kept = {"number": self.place + 1, "values": values(given), "from": [], "order": []}
-            self.kept.update({"group": group.decode("ascii")} if group else {})
-            self.outcomes.append(self.kept)
-        self.place += 1
-
-    def example(self, line):
-        source = FROM.fullmatch(line)
-        if source:
-            self.kept["from"].append([source[1].decode("ascii"), words(source[2])])
-        elif line.startswith(b"  order "):
-            self.kept["order"] = words(line)[1:]
-        else:
-            raise Fault("the program printed a line that isn't known here")
-
-    def end(self, line):
-        word, _, rest = line.partition(b" ")
-        if word in LAST:
-            self.other[LAST[word]] = int(rest) if word == b"outcomes" else rest.decode("ascii")
-        elif word == b"interleaving":
-            self.other["interleaving"] = values(rest)
-        elif line.startswith(b"data race "):
-            self.other["race"] = line.split()[2].decode("ascii")
-        elif word == b"refused":
-            self.other["refused"] = line.decode("ascii")
-        elif line not in (b"met none", b"unmet none"):
+        outcome, last = OUTCOME.fullmatch(line), LAST.fullmatch(line)
+        if outcome and self.keeps:
+            values = [word.split("=") for word in outcome[1].split()]
+            self.outcomes.append(([(register, int(value)) for register, value in values], [line]))
+        elif line.startswith("  ") and self.keeps and self.outcomes:
+            self.outcomes[-1][1].append(line)
+        elif last:
+            self.last[last[1]] = last[2]
+        elif not outcome and not line.startswith("  "):
             raise Fault("the program printed a line that isn't known here")
 
 
-def read_report(stream, part):
-    report = Report(part)
+def read_report(stream, keeps):
+    report = Report(keeps)
     for line in iter(lambda: stream.readline(LONGEST), b""):
         if not line.endswith(b"\n"):
             raise Fault("the program's report breaks off")
-        report.take(line[:-1])
+        report.take(line[:-1].decode("latin-1"))
     return report

@@ -13,11 +13,12 @@ from litmus.fault import Fault
 class Words(argparse.ArgumentParser):
     """The words of a command whose own text is its help."""
 
-    def __init__(self, command, text):
+    def __init__(self, command, text, program=True):
         super().__init__(prog=command, usage=argparse.SUPPRESS, add_help=False, allow_abbrev=False)
         self.add_argument("-h", "--help", action=Help, text=text)
         self.add_argument("--version", action="version", version=f"{command} {version()[0]}")
-        self.add_argument("--program")
+        if program:
+            self.add_argument("--program")
 
     def error(self, message):
         raise Fault(f"{shown(message)}; {self.prog} --help says what they may be", statuses.WORDS)

@@ -1,5 +1,5 @@
-"""The documents that the page serves: each as HTML, with the pictures in them. Their links lead to one another, and those to a test
-of litmus/ open it on the page; what isn't served is no link. A litmus text or a program that stands in one has a link that opens it."""
+"""The documents of the site: each as HTML, with the pictures in them. Their links lead to one another, and those to a test of litmus/
+open it on the page; what isn't there is no link. A litmus text or a program that stands in one has a link that opens it."""
 import base64
 import html
 import posixpath
@@ -14,8 +14,7 @@ NAMES = {"README.md": "README", "docs/TUTORIAL.md": "Tutorial", "docs/FORMAT.md"
          "docs/ARCHITECTURE.md": "Architecture", "docs/DECISIONS.md": "Decisions", "docs/HEADLINE.md": "The headline",
          "shared/python/web/README.md": "The page", "shared/javascript/README.md": "Beside engines"}
 IN_EACH = 7  # of these are linked from each document
-PICTURES = {".svg": "image/svg+xml", ".png": "image/png"}
-BEFORE = "/doc/"
+PICTURES = (".svg", ".png")
 BLOCK = re.compile(r"<pre>([^$].*?)</pre>\n", re.S)
 # What a whole litmus text has, and a whole program of agents, by their words in an address.
 WHOLE = {"t": re.compile(r"^test \w+\nbytes \d+\nagent .*^check ", re.M | re.S), "js": re.compile(r"^agents\(", re.M)}
@@ -25,13 +24,14 @@ FRAME = """<!doctype html>
 <meta charset="utf-8">
 <meta name="viewport" content="width=device-width, initial-scale=1">
 <meta name="color-scheme" content="light dark">
+<meta http-equiv="Content-Security-Policy" content="default-src 'none'; style-src 'self'; img-src 'self'">
 <title>{title} - jslit</title>
-<link rel="icon" href="/icon.svg" type="image/svg+xml">
-<link rel="stylesheet" href="/base.css">
-<link rel="stylesheet" href="/document.css">
+<link rel="icon" href="{top}icon.svg" type="image/svg+xml">
+<link rel="stylesheet" href="{top}base.css">
+<link rel="stylesheet" href="{top}document.css">
 </head>
 <body>
-<nav><a href="/">The page</a> {others}</nav>
+<nav><a href="{top}index.html">The page</a> {others}</nav>
 <main class="document">
 {body}
 </main>
@@ -40,17 +40,27 @@ FRAME = """<!doctype html>
 """
 
 
-def address_of(kind, data):
+def served(name):
+    """Where the site has a file of the repository, or a document as HTML."""
+    return f"doc/{name.removesuffix('.md')}.html" if name.endswith(".md") else f"doc/{name}"
+
+
+def top_of(name):
+    """The site's top, as seen from a document."""
+    return "../" * served(name).count("/")
+
+
+def address_of(top, kind, data):
     """The page with this text in its editor."""
-    return f"/#{kind}=" + base64.urlsafe_b64encode(data).decode().rstrip("=")
+    return f"{top}index.html#{kind}=" + base64.urlsafe_b64encode(data).decode().rstrip("=")
 
 
-def opened(page):
+def opened(page, top):
     """A page with a link behind each block that is a whole text."""
     def led(found):
         text = html.unescape(found[1]).rstrip("\n") + "\n"
         kind = next((kind for kind, form in WHOLE.items() if form.search(text)), None)
-        return found[0] + (f'<p class="open"><a href="{address_of(kind, text.encode())}">Open it in the editor</a></p>\n' if kind else "")
+        return found[0] + (f'<p class="open"><a href="{address_of(top, kind, text.encode())}">Open it in the editor</a></p>\n' if kind else "")
     return BLOCK.sub(led, page)
 
 
@@ -64,23 +74,22 @@ def linker(name):
         if path in ("litmus", "docs") or path + "/README.md" in NAMES:
             path += "/README.md"
         if path.endswith(".lit") and (TOP / path).parent == TOP / "litmus" and (TOP / path).is_file():
-            return address_of("t", (TOP / path).read_bytes())
-        served = path in NAMES or posixpath.splitext(path)[1] in PICTURES
-        return BEFORE + path + (f"#{part}" if part else "") if served and (TOP / path).is_file() else None
+            return address_of(top_of(name), "t", (TOP / path).read_bytes())
+        is_there = (path in NAMES or posixpath.splitext(path)[1] in PICTURES) and (TOP / path).is_file()
+        return top_of(name) + served(path) + (f"#{part}" if part else "") if is_there else None
     return link
 
 
 def documents():
-    """What a path gets: the type and the bytes."""
+    """The bytes of each, by its name in the site."""
     there = {name: title for name, title in NAMES.items() if (TOP / name).is_file()}
     files = {}
     pages = rendered([(TOP / name).read_text() for name in there])
     for (name, title), page in zip(there.items(), pages):
-        others = " ".join(f'<a href="{BEFORE}{other}"{" aria-current=page" if other == name else ""}>{html.escape(words)}</a>'
+        top = top_of(name)
+        others = " ".join(f'<a href="{top}{served(other)}"{" aria-current=page" if other == name else ""}>{html.escape(words)}</a>'
                           for other, words in list(there.items())[:IN_EACH])
-        body = FRAME.format(title=html.escape(title), others=others, body=opened(linked(page, linker(name))))
-        files[BEFORE + name] = ("text/html; charset=utf-8", body.encode())
-    for path in sorted((TOP / "docs").glob("*")):
-        if path.suffix in PICTURES:
-            files[f"{BEFORE}docs/{path.name}"] = (PICTURES[path.suffix], path.read_bytes())
-    return files
+        body = FRAME.format(title=html.escape(title), top=top, others=others, body=opened(linked(page, linker(name)), top))
+        files[served(name)] = body.encode()
+    pictures = (path for path in sorted((TOP / "docs").glob("*")) if path.suffix in PICTURES)
+    return files | {served(f"docs/{path.name}"): path.read_bytes() for path in pictures}

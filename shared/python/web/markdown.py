@@ -4,15 +4,18 @@ import json
 import re
 import subprocess
 
+from litmus.fault import Fault
 from litmus.program import TOP
 
 LINK = re.compile(r' (href|src)="([^"]*)"')
 
 
 def rendered(texts):
-    """The HTML of each text. Without node-marked it stands there as it is."""
+    """The HTML of each text."""
     run = subprocess.run(["node", TOP / "shared" / "javascript" / "markdown.js"], input=json.dumps(texts), capture_output=True, text=True)
-    return [f"<pre>{html.escape(text)}</pre>" for text in texts] if run.returncode else json.loads(run.stdout)
+    if run.returncode:
+        raise Fault(f"the documents can't be rendered: {run.stderr.strip()[-300:]}")
+    return json.loads(run.stdout)
 
 
 def targets(page):

@@ -4,52 +4,32 @@ such a worker, and no network."""
 import base64
 import hashlib
 import json
-import posixpath
-import re
+import pathlib
 
-from litmus.program import TOP
+from web.modules import SHARED, modules
 
-FOLDER = TOP / "shared"
 JS = "javascript/js"
 ENTRIES = (f"{JS}/page/worker.js", f"{JS}/page/host.js", f"{JS}/memory.js")
+INSTEAD = {f"{JS}/host.js": f"{JS}/page/host.js"}
 PACKAGES = {"acorn": "acorn/dist/acorn.js", "acorn-walk": "acorn-walk/dist/walk.js"}
-PLACES = ("/usr/share/nodejs", "/usr/lib/nodejs")  # where Debian has packages
+NODE = pathlib.Path("/usr/share/nodejs")  # where Debian has packages
 FRAME = """<!doctype html>
 <html lang="en">
 <meta charset="utf-8">
+<meta http-equiv="Content-Security-Policy" content="{policy}">
 <title>jslit: JavaScript is run here</title>
 <script>{script}</script>
 </html>
 """
 
 
-def package(name):
-    """The text of a package of Debian's, or None where it isn't installed."""
-    return next((open(f"{place}/{PACKAGES[name]}").read() for place in PLACES if posixpath.exists(f"{place}/{PACKAGES[name]}")), None)
-
-
-def modules():
-    """The texts of the modules that the worker needs, by their places in shared/; None where a package is missing."""
-    found, waiting = {name: package(name) for name in PACKAGES}, list(ENTRIES)
-    while waiting:
-        place = waiting.pop()
-        if place in found or place == f"{JS}/host.js":
-            continue
-        found[place] = (FOLDER / place).read_text()
-        waiting += [posixpath.normpath(posixpath.join(posixpath.dirname(place), name))
-                    for name in re.findall(r"require\('(\.[^']+)'\)", found[place])]
-    return None if None in found.values() else found
-
-
 def sandbox():
-    """The frame and its policy; None where a package is missing."""
-    sources = modules()
-    if sources is None:
-        return None
+    """The frame."""
+    packages = {name: (NODE / path).read_text() for name, path in PACKAGES.items()}
+    sources = modules([*ENTRIES, *packages], packages, INSTEAD)
     text = lambda value: json.dumps(value).replace("<", "\\u003c")  # noqa: E731
-    worker = f"((sources) => {{{(FOLDER / JS / 'page/loader.js').read_text()}}})({json.dumps(sources)});"
-    script = f"((worker) => {{{(FOLDER / JS / 'page/frame.js').read_text()}}})({text(worker)});"
+    worker = f"((sources) => {{{(SHARED / JS / 'page/loader.js').read_text()}}})({json.dumps(sources)});"
+    script = f"((worker) => {{{(SHARED / JS / 'page/frame.js').read_text()}}})({text(worker)});"
     digest = base64.b64encode(hashlib.sha256(script.encode()).digest()).decode()
-    policy = ("default-src 'none'", f"script-src 'sha256-{digest}' 'unsafe-eval'", "worker-src blob:", "frame-ancestors 'self'",
-              "sandbox allow-scripts")
-    return FRAME.format(script=script).encode(), "; ".join(policy)
+    policy = f"default-src 'none'; script-src 'sha256-{digest}' 'unsafe-eval'; worker-src blob:"
+    return FRAME.format(policy=policy, script=script).encode()

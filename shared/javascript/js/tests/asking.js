@@ -1,17 +1,29 @@
 'use strict';
 // What the tests share: programs from texts, answers from the program, and interleavings of the code itself.
 
+const fs = require('fs');
 const path = require('path');
 const { execFile } = require('child_process');
 const { ReportReader } = require('../../report.js');
 const { answerOf, checkIn } = require('../answer.js');
 const { Exploring } = require('../explore.js');
-const { Limit } = require('../refusal.js');
+const { Limit, Refusal } = require('../refusal.js');
 const { Run, isRead, keyOf } = require('../run.js');
 const { Program, plant } = require('../trees.js');
 
 const WHY = process.env.JSLIT_WHY || path.resolve(__dirname, '..', '..', '..', '..', 'bin', 'jslit-why');
 const PROGRAM = process.env.JSLIT || path.resolve(__dirname, '..', '..', '..', '..', 'jslit');
+const FOLDER = path.join(__dirname, '..', 'samples');
+// The values that a read of a small program may have, and what it chooses of.
+const domain = ({ op, count }) => (op === 'choice' ? Array.from({ length: count }, (_, place) => place) : [0, 1, 2, 3]);
+
+// The samples, each with its file, what uses it (or null), and the source of both.
+const SAMPLES = fs.readdirSync(FOLDER).filter((each) => /^[\w-]+\.js$/.test(each)).map((each) => {
+  const [file, use] = [path.join(FOLDER, each), path.join(FOLDER, each.replace('.js', '.use.js'))];
+  const isUsed = fs.existsSync(use);
+  const source = fs.readFileSync(file, 'utf8') + (isUsed ? fs.readFileSync(use, 'utf8') : '');
+  return { name: each.slice(0, -3), file, use: isUsed ? use : null, source };
+});
 
 function ask(text, program = PROGRAM) {
   return new Promise((done, failed) => {
@@ -53,6 +65,16 @@ async function answered(source, main = 'main.js') {
   const made = await new Exploring(program, 'it', ask).whole();
   const names = made.trees.list.map(({ name }) => name);
   return { ...answerOf(names, made.ended, checkIn(program.files)), ...made, names, program };
+}
+
+// The same, or null where the source is refused.
+async function answeredIfTaken(source, main) {
+  try {
+    return await answered(source, main);
+  } catch (error) {
+    if (error instanceof Refusal) return null;
+    throw error;
+  }
 }
 
 // The outcomes by the interleavings alone, or null where these don't stand for texts.
@@ -157,4 +179,7 @@ function randomOf(seed) {
   };
 }
 
-module.exports = { agentsOf, answered, answeredInTurn, ask, askWhy, everyInterleaving, interleaving, keyOf, programOf, randomOf, tellOf, textsOf };
+module.exports = {
+  SAMPLES, agentsOf, answered, answeredIfTaken, answeredInTurn, ask, askWhy, domain, everyInterleaving, interleaving, keyOf, programOf,
+  randomOf, tellOf, textsOf,
+};

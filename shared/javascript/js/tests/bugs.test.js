@@ -46,10 +46,6 @@ agents({ A() { d.setInt16(0, 0x0101); }, B() { return d.getInt16(0); } });`,
   ['an index that is published before its element', 'B === 5', `
 agents({ A() { Atomics.store(m, 1, 1); m[0] = 5; }, B() { return Atomics.load(m, 1) === 1 ? m[0] : 5; } });`,
   'Atomics.store(m, 1, 1); m[0] = 5;', 'm[0] = 5; Atomics.store(m, 1, 1);'],
-  ['a ticket that is drawn twice', 'A !== B', `
-function draw() { const ticket = Atomics.load(m, 0); Atomics.store(m, 0, ticket + 1); return ticket; }
-agents({ A: draw, B: draw });`,
-  'const ticket = Atomics.load(m, 0); Atomics.store(m, 0, ticket + 1); return ticket;', 'return Atomics.add(m, 0, 1);'],
   ['a reader that doesn\'t look at the number again', 'B[0] === B[1]', `
 agents({
   A() { Atomics.store(m, 0, 1); Atomics.store(m, 1, 1); Atomics.store(m, 2, 1); Atomics.store(m, 0, 2); },

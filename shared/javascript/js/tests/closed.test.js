@@ -9,13 +9,10 @@ limits.COMBINATION_LIMIT = 2;
 
 const test = require('node:test');
 const assert = require('node:assert');
-const { agentsOf, answered, randomOf, tellOf, textsOf } = require('./asking.js');
+const { agentsOf, answeredIfTaken, domain, randomOf, tellOf, textsOf } = require('./asking.js');
 const { hasRace, outcomesOf } = require('./model.js');
-const { Refusal } = require('../refusal.js');
 
 const COUNT = Number(process.env.JSLIT_RANDOM || 120);
-const VALUES = [0, 1, 2, 3];
-const domain = ({ op, count }) => (op === 'choice' ? Array.from({ length: count }, (_, place) => place) : VALUES);
 
 function sourceOf(random) {
   const pick = (...list) => list[random(list.length)];
@@ -31,13 +28,8 @@ function sourceOf(random) {
 
 // {texts, isThin, raced, told} of a program, or null where it is refused.
 async function tried(source) {
-  let answer;
-  try {
-    answer = await answered(source);
-  } catch (error) {
-    if (error instanceof Refusal) return null;
-    throw error;
-  }
+  const answer = await answeredIfTaken(source);
+  if (answer === null) return null;
   const agents = agentsOf(source, true);
   const wanted = outcomesOf(agents.runs, domain, agents.setting.initial, tellOf(agents.names), 4);
   const told = textsOf(answer);

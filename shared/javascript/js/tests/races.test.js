@@ -5,15 +5,12 @@
 
 const test = require('node:test');
 const assert = require('node:assert');
-const { agentsOf, answered, programOf, randomOf } = require('./asking.js');
+const { agentsOf, answeredIfTaken, domain, programOf, randomOf } = require('./asking.js');
 const { Interleavings } = require('../interleavings.js');
 const { hasInterleavedRace, hasRace } = require('./model.js');
-const { Refusal } = require('../refusal.js');
 const { plant } = require('../trees.js');
 
 const COUNT = Number(process.env.JSLIT_RANDOM || 150);
-const VALUES = [0, 1, 2, 3];
-const domain = ({ op, count }) => (op === 'choice' ? Array.from({ length: count }, (_, place) => place) : VALUES);
 
 function sourceOf(random) {
   const pick = (...list) => list[random(list.length)];
@@ -33,13 +30,8 @@ function sourceOf(random) {
 
 // What is told of a program, beside what there is; null where it is refused.
 async function tried(source) {
-  let answer;
-  try {
-    answer = await answered(source);
-  } catch (error) {
-    if (error instanceof Refusal) return null;
-    throw error;
-  }
+  const answer = await answeredIfTaken(source);
+  if (answer === null) return null;
   if (answer.isSequential) assert.ok(answer.ended.every(({ isInterleaved }) => isInterleaved), source);
   const agents = agentsOf(source, true);
   const raced = hasRace(agents.runs, domain, agents.setting.initial, 4);

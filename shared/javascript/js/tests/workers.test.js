@@ -1,14 +1,11 @@
 'use strict';
 // The samples on real workers of Node: nothing is seen that isn't told.
 
-const fs = require('fs');
-const path = require('path');
 const test = require('node:test');
 const assert = require('node:assert');
-const { answered, textsOf } = require('./asking.js');
+const { SAMPLES, answered, textsOf } = require('./asking.js');
 const { seen } = require('../real.js');
 
-const SAMPLES = path.join(__dirname, '..', 'samples');
 const TIMES = Number(process.env.JSLIT_TIMES || 300);   // how often each is run
 const PATIENCE = 15;                                    // seconds for all of them
 // Those that may wait for ever, or whose whole answer takes long.
@@ -17,10 +14,7 @@ const LEFT_OUT = new Set(['audioworklet', 'parlib-lock', 'treiber', 'vyukov', 'm
 test('samples on real workers', async (t) => {
   const { shown } = require('../values.js');
   const said = [];
-  for (const file of fs.readdirSync(SAMPLES).filter((each) => /^[\w-]+\.js$/.test(each))) {
-    const name = file.slice(0, -3);
-    const use = path.join(SAMPLES, `${name}.use.js`);
-    const source = fs.readFileSync(path.join(SAMPLES, file), 'utf8') + (fs.existsSync(use) ? fs.readFileSync(use, 'utf8') : '');
+  for (const { name, source } of SAMPLES) {
     if (LEFT_OUT.has(name) || !source.includes('agents({')) continue;
     const made = await seen({ source: source.replace(/^export /gm, ''), times: TIMES, patience: PATIENCE });
     if (made.results === null) {

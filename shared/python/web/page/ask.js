@@ -1,33 +1,53 @@
-// Asks the server about a text. One question of each kind is open at a time: a new one ends the one before.
+'use strict';
+// Asks about a text. A worker answers, with the proved engine in it, and is ended where its time is up or nobody waits for it any more. One
+// question of each name is open at a time: a new one ends the one before.
 
-export const TEXT_LIMIT = 65536;
-const open = new Map();
+const { bytesOf, signsOf } = require('../../../javascript/signs.js');
 
-export const bytesOf = (text) => new TextEncoder().encode(text);
+const TEXT_LIMIT = 65536;
+const SECONDS = 10;   // for an answer
+const KEPT = ['values', 'execution'];   // what is asked of many small texts, one after the other
+const MODULE = bytesOf(atob(engine.module));
+const SCRIPT = URL.createObjectURL(new Blob([engine.worker], { type: 'text/javascript' }));
+
+const open = new Map();   // by its name what ends a question
+const idle = [];          // workers that wait for another one
 
 // Ends the open question of this name, where there is one.
-export function stop(name) {
-  open.get(name)?.abort();
-  open.delete(name);
+const stop = (name) => open.get(name)?.();
+
+// Ends the workers that wait.
+function rest() {
+  for (const worker of idle.splice(0)) worker.terminate();
 }
 
-// The server's answer, or null where another question or `stop` ended this one.
-export async function ask(name, kind, words, text) {
-  stop(name);
-  const control = new AbortController();
-  open.set(name, control);
+function startedWorker() {
   try {
-    const query = Object.entries(words).map((pair) => pair.map(encodeURIComponent).join('='));
-    const answer = await fetch(`/${kind}${query.length ? '?' : ''}${query.join('&')}`,
-      { method: 'POST', body: bytesOf(text), signal: control.signal });
-    return { ...await answer.json(), ...(answer.status === 503 ? { busy: true } : {}) };
-  } catch (error) {
-    return control.signal.aborted ? null : { kind: 'failed', said: 'the server of this page doesn\u2019t answer' };
-  } finally {
-    if (open.get(name) === control) open.delete(name);
+    return new Worker(SCRIPT);
+  } catch {
+    return null;
   }
 }
 
-export async function library() {
-  return (await fetch('/library')).json();
+// The answer, or null where another question or `stop` ended this one.
+function ask(name, kind, given, text) {
+  stop(name);
+  const worker = idle.pop() ?? startedWorker();
+  if (worker === null) return Promise.resolve({ kind: 'failed', said: 'this browser has no workers for the page, which answer' });
+  return new Promise((done) => {
+    const end = (answer, isKept = false) => {
+      clearTimeout(clock);
+      open.delete(name);
+      if (isKept) idle.push(worker);
+      else worker.terminate();
+      done(answer);
+    };
+    const clock = setTimeout(end, SECONDS * 1000, { kind: 'stopped', by: 'time', limit: `${SECONDS} seconds` });
+    open.set(name, () => end(null));
+    worker.onmessage = ({ data }) => end(data, KEPT.includes(kind));
+    worker.onerror = ({ message }) => end({ kind: 'failed', said: `the worker ended: ${message ?? 'it can\u2019t be started'}` });
+    worker.postMessage({ module: MODULE, asked: { kind, given, text: signsOf(text) } });
+  });
 }
+
+module.exports = { TEXT_LIMIT, ask, rest, stop };

@@ -1,21 +1,22 @@
+'use strict';
 // The editor: line numbers beside the text, and the line at fault.
 
-import { paint } from './highlight.js';
-import { byId, make, sentence } from './make.js';
+const { paint } = require('./highlight.js');
+const { byId, make, sentence } = require('./make.js');
 
 const area = byId('text');
 const numbers = byId('numbers');
 let fault = null;       // the one that is marked, where it stands
 let faulty = new Set();  // the lines of all faults
 
-export const text = () => area.value;
+const text = () => area.value;
 
-export function setText(value) {
+function setText(value) {
   area.value = value;
   clearFault();
 }
 
-export function onChange(act) {
+function onChange(act) {
   area.addEventListener('input', () => {
     clearFault();
     act();
@@ -50,7 +51,7 @@ function place() {
 
 const lineOf = (line) => area.value.split('\n')[line - 1] ?? '';
 
-export function clearFault() {
+function clearFault() {
   fault = null;
   faulty = new Set();
   area.removeAttribute('aria-invalid');
@@ -61,7 +62,7 @@ export function clearFault() {
 // The place in the text at which the line begins.
 const beginning = (line) => area.value.split('\n').slice(0, line - 1).reduce((sum, each) => sum + each.length + 1, 0);
 
-export function goTo(line, column) {
+function goTo(line, column) {
   const at = beginning(line) + (column ?? 0);
   area.focus();
   area.setSelectionRange(at, at);
@@ -124,7 +125,7 @@ function told(each, first) {
 }
 
 // Shows a refusal at its line, what there is to say of it, and the other faults.
-export function showRefusal(refusal) {
+function showRefusal(refusal) {
   const faults = [refusal, ...refusal.more];
   const inside = faults.map((each, place) => told(each, place === 0));
   const taken = [...new Map(faults.filter((each) => each.write !== null).map((each) => [each.line, each])).values()];
@@ -144,3 +145,5 @@ export function showRefusal(refusal) {
 
 area.addEventListener('scroll', place);
 new ResizeObserver(place).observe(area);
+
+module.exports = { clearFault, goTo, onChange, setText, showRefusal, text };

@@ -1,9 +1,10 @@
+'use strict';
 // The colours of a litmus text, by the grammar that other editors have of it: editors/textmate/.
 
-import { byId, make } from './make.js';
+const { byId, make } = require('./make.js');
 
 const MOST = 20000;   // signs of a text that is coloured
-const { patterns } = await (await fetch('/grammar.json')).json();
+const { patterns } = require('./grammar.json');
 const FORMS = patterns.map(({ name = '', match, captures = {} }) => ({ name, captures, form: new RegExp(match, 'dg') }));
 
 const classOf = (name) => name.split('.')[0];
@@ -38,8 +39,10 @@ function* coloured(line) {
 }
 
 // Colours the text behind the editor's own signs, which are then not seen.
-export function paint(text) {
+function paint(text) {
   const isPainted = text.length <= MOST && document.documentElement.dataset.language !== 'javascript';
   byId('text').classList.toggle('is-painted', isPainted);
   byId('colours').replaceChildren(...(isPainted ? text.split('\n').flatMap((line) => [...coloured(line), '\n']) : []));
 }
+
+module.exports = { paint };

@@ -1,14 +1,15 @@
+'use strict';
 // JavaScript from the editor, which this browser runs: a worker in a sandboxed frame explores it, and asks this page about litmus texts.
 // What comes from there may be the code's own words, so it is taken for texts to ask about and for lines to show, and for nothing else.
 
-import { TEXT_LIMIT, ask, bytesOf, stop } from './ask.js';
-import { make } from './make.js';
+const { TEXT_LIMIT, ask, rest, stop } = require('./ask.js');
+const { make } = require('./make.js');
+const { signsOf } = require('../../../javascript/signs.js');
 
 const SECONDS = 120;      // for an answer
 const SILENT = 12;        // how many seconds the frame may say nothing
 const RUN = 5000;         // how many milliseconds a run may take
 const AT_ONCE = 2;        // texts that are asked about
-const TRIES = 60;         // where the server has no room
 const MOST = 8 << 20;     // signs of a message
 
 const isText = (value) => typeof value === 'string';
@@ -40,12 +41,12 @@ function heard(data) {
 
 let sessions = 0;
 
-export class Session {
+class Session {
   // `given` is {files, use} for the worker; `tell` is called with what comes of it: {told}, {lines}, {refusal}, {failed}, or
   // {stopped} with words, after which the session is over.
   constructor(given, tell) {
     Object.assign(this, { tell, name: `javascript ${sessions += 1}`, waiting: [], open: new Set(), isOver: false, texts: 0, run: null });
-    this.frame = make('iframe', { sandbox: 'allow-scripts', src: '/sandbox.html', title: 'The code of the editor', hidden: true });
+    this.frame = make('iframe', { sandbox: 'allow-scripts', src: 'sandbox.html', title: 'The code of the editor', hidden: true });
     this.frame.addEventListener('load', () => this.begin(given), { once: true });
     document.body.append(this.frame);
     this.wait();
@@ -118,14 +119,9 @@ export class Session {
     this.next();
   }
 
-  // What the server says, which may have no room at once.
   async asked(name, text, why) {
-    if (bytesOf(text).length > TEXT_LIMIT) return { kind: 'failed', said: 'a text is too long' };
-    for (let tries = 1; ; tries += 1) {
-      const answer = await (why === undefined ? ask(name, 'values', {}, text) : ask(name, 'execution', { sources: why[1] ?? '' }, text));
-      if (!answer?.busy || tries === TRIES || this.isOver) return answer;
-      await new Promise((done) => setTimeout(done, 500));
-    }
+    if (signsOf(text).length > TEXT_LIMIT) return { kind: 'failed', said: 'a text is too long' };
+    return why === undefined ? ask(name, 'values', {}, text) : ask(name, 'execution', { sources: why[1] ?? '' }, text);
   }
 
   // Ends the worker with its frame, and says why where there is something to say.
@@ -133,6 +129,7 @@ export class Session {
     if (this.isOver) return;
     this.isOver = true;
     for (const name of this.open) stop(name);
+    rest();
     clearTimeout(this.clock);
     clearTimeout(this.run);
     clearInterval(this.pulse);
@@ -140,3 +137,5 @@ export class Session {
     if (told) this.tell({ kind: Object.keys(told)[0], ...told });
   }
 }
+
+module.exports = { Session };

@@ -1,9 +1,10 @@
+'use strict';
 // Elements of the page.
 
-export const byId = (id) => document.getElementById(id);
+const byId = (id) => document.getElementById(id);
 
 // make('button', {type: 'button'}, 'Text', otherElement): text is never read as HTML.
-export function make(name, given = {}, ...inside) {
+function make(name, given = {}, ...inside) {
   const element = document.createElement(name);
   for (const [key, value] of Object.entries(given)) {
     if (key.startsWith('on')) element.addEventListener(key.slice(2), value);
@@ -14,6 +15,8 @@ export function make(name, given = {}, ...inside) {
 }
 
 // A sentence, in which what stands between two ` is code.
-export const sentence = (text) => text.split(/`([^`]*)`/).map((part, place) => (place % 2 ? make('code', {}, part) : part));
+const sentence = (text) => text.split(/`([^`]*)`/).map((part, place) => (place % 2 ? make('code', {}, part) : part));
 
-export const grouped = (number) => number.toLocaleString('en');
+const grouped = (number) => number.toLocaleString('en');
+
+module.exports = { byId, grouped, make, sentence };

@@ -1,16 +1,18 @@
+'use strict';
 // The page: a text, what the program says of it, and the execution of an outcome.
 
-import { TEXT_LIMIT, ask, bytesOf, library, stop } from './ask.js';
-import { addressOf, textOf } from './address.js';
-import { clearFault, goTo, onChange, setText, showRefusal, text } from './editor.js';
-import { choose, languageOf, showLanguage } from './language.js';
-import { byId, grouped, make, sentence } from './make.js';
-import { showPicture } from './picture.js';
-import { hideProgram, runProgram, stopProgram } from './program.js';
-import { savePng, saveSvg, saveText } from './save.js';
-import { setOutcomes, spoken } from './table.js';
-import { newText } from './turns.js';
-import { linesOf, say, sayStopped, sayVerdict } from './verdict.js';
+const { TEXT_LIMIT, ask, stop } = require('./ask.js');
+const { addressOf, textOf } = require('./address.js');
+const { clearFault, goTo, onChange, setText, showRefusal, text } = require('./editor.js');
+const { choose, languageOf, showLanguage } = require('./language.js');
+const { byId, grouped, make, sentence } = require('./make.js');
+const { showPicture } = require('./picture.js');
+const { hideProgram, runProgram, stopProgram } = require('./program.js');
+const { savePng, saveSvg, saveText } = require('./save.js');
+const { setOutcomes, spoken } = require('./table.js');
+const { newText } = require('./turns.js');
+const { signsOf } = require('../../../javascript/signs.js');
+const { linesOf, say, sayRacing, sayStopped, sayVerdict } = require('./verdict.js');
 
 let tests = new Map();   // the library's, by name
 
@@ -24,8 +26,7 @@ function running(is) {
 }
 
 function hideOutcomes() {
-  stop('picture');
-  stop('save');
+  for (const name of ['picture', 'save', 'racing', 'torn']) stop(name);
   told = null;
   byId('stale').hidden = true;
   byId('notes').hidden = true;
@@ -40,7 +41,7 @@ function hideOutcomes() {
 function runCode() {
   asked = text();
   hideOutcomes();
-  if (isTooLong(bytesOf(asked).length + bytesOf(byId('use').value).length)) return;
+  if (isTooLong(signsOf(asked).length + signsOf(byId('use').value).length)) return;
   say('running', 'Running it in a frame of its own: two minutes at most.');
   running(true);
   runProgram(asked, byId('use').value, () => running(false));
@@ -55,7 +56,7 @@ async function run(kind, words = {}, of = text()) {
   asked = of;
   clearFault();
   hideOutcomes();
-  if (isTooLong(bytesOf(asked).length)) return;
+  if (isTooLong(signsOf(asked).length)) return;
   say('running', 'Running: ten seconds at most.');
   running(true);
   const answer = await ask('run', kind, words, asked);
@@ -81,6 +82,7 @@ function show(answer, kind) {
     told = answer;
     sayVerdict(answer, showWhy, showRace);
     sayNotes(answer.notes);
+    sayMore(answer);
     byId('save-report').hidden = answer.kind !== 'report';
     byId('outcomes').hidden = answer.outcomes.length === 0;
     setOutcomes(answer.outcomes, showOutcome);
@@ -106,9 +108,18 @@ function sayNotes(notes) {
     make('button', { type: 'button', onclick: () => goTo(line, 0) }, `Line ${line}`), ' ', ...sentence(said))));
 }
 
+// What is found beside the report: the accesses of a data race, and notes on examples in which a read mixes several stores.
+async function sayMore({ race, notes, outcomes }) {
+  const isMixed = ({ from }) => from.some(([, sources]) => new Set(sources).size > 1);
+  const [racing, torn] = await Promise.all([race === 'yes' ? ask('racing', 'racing', {}, asked) : null,
+    outcomes.some(isMixed) ? ask('torn', 'torn', { outcomes }, asked) : null]);
+  if (racing?.kind === 'racing') sayRacing(racing.pairs);
+  if (torn?.kind === 'torn') sayNotes([...notes, ...torn.notes]);
+}
+
 async function saveReport(examples) {
   byId('saved').textContent = 'Asking for it.';
-  const answer = await ask('save', 'text', { examples }, asked);
+  const answer = await ask('save', 'text', { examples: examples === 'with' }, asked);
   if (!answer) return;
   byId('saved').textContent = answer.kind === 'text' ? '' : `Not saved: ${answer.said ?? `stopped at the limit of ${answer.limit}`}.`;
   if (answer.kind === 'text') saveText(`${told?.test ?? 'report'}${examples === 'with' ? '' : '-outcomes'}.txt`, answer.text);
@@ -116,7 +127,7 @@ async function saveReport(examples) {
 
 let drawn = '';   // a name for the picture that is shown
 
-// Draws what the server answers to a question. Beside it stand its lines in the report, or where it has none what the picture shows.
+// Draws what is answered to a question. Beside it stand its lines in the report, or where it has none what the picture shows.
 async function draw(title, name, kind, words, lines = null) {
   byId('example').hidden = false;
   for (const each of ['save-svg', 'save-png']) byId(each).disabled = true;
@@ -138,16 +149,14 @@ async function draw(title, name, kind, words, lines = null) {
 }
 
 function showOutcome(outcome) {
-  const sources = outcome.from.map(([event, given]) => `${event}=${given.join(',')}`).join(' ');
-  return draw(`Outcome ${grouped(outcome.number)}: ${spoken(outcome)}`, outcome.number, 'picture', { sources, outcome: spoken(outcome) },
-    linesOf(outcome));
+  return draw(`Outcome ${grouped(outcome.number)}: ${spoken(outcome)}`, outcome.number, 'picture', outcome, linesOf(outcome));
 }
 
 // Who asks for these goes to where they are shown.
 function showWhy() {
   const never = told.verdict === 'never';
   const shown = draw(never ? 'Why not: an attempt to meet the condition' : 'Why always: an attempt to fail the condition', 'why', 'why',
-    { outcomes: never ? 'met' : 'unmet' });
+    { unmet: !never });
   byId('example-title').focus();
   return shown;
 }
@@ -178,8 +187,8 @@ function take(value, language = null, use = '') {
   say('nothing', 'Nothing has been run yet.');
 }
 
-function takeAddress(otherwise) {
-  const { text: given, use, language, broken } = textOf(location.hash);
+async function takeAddress(otherwise) {
+  const { text: given, use, language, broken } = await textOf(location.hash);
   take(given ?? otherwise, language, use);
   if (broken) say('failed', 'The address holds no text that can be read.');
 }
@@ -200,18 +209,24 @@ function fillLibrary(groups) {
     byId('comment').textContent = test?.comment ?? '';
     if (!test) return;
     keep();
-    history.pushState(null, '', addressOf(test.text));
+    write(history.pushState, test.text);
     take(test.text);
   });
   return found;
 }
 
 let waiting = 0;
+let written = Promise.resolve();   // the address, a text after the other
+
+function write(put, ...given) {
+  const address = addressOf(...given);
+  written = written.then(async () => put.call(history, null, '', await address));
+}
 
 // Keeps the text in the address, so that Back brings it back.
 function keep() {
   clearTimeout(waiting);
-  history.replaceState(null, '', addressOf(text(), languageOf(text()), byId('use').value));
+  write(history.replaceState, text(), languageOf(text()), byId('use').value);
 }
 
 const nameIn = (value) => /^[ \t\r]*test[ \t\r]+(\w+)/m.exec(value)?.[1];
@@ -265,7 +280,10 @@ document.addEventListener('keydown', (event) => {
   }
 });
 window.addEventListener('hashchange', () => takeAddress(text()));
-tests = fillLibrary(await library());
-takeAddress(tests.get('sb')?.text ?? '');
-keep();
-document.documentElement.dataset.ready = 'yes';
+tests = fillLibrary(require('./library.json'));
+takeAddress(tests.get('sb')?.text ?? '').then(() => {
+  keep();
+  return written;
+}).then(() => {
+  document.documentElement.dataset.ready = 'yes';
+});

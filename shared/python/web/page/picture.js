@@ -1,6 +1,7 @@
-// The picture of an execution, as the server lays it out.
+'use strict';
+// The picture of an execution, as the worker lays it out.
 
-import { byId } from './make.js';
+const { byId } = require('./make.js');
 
 const SVG = 'http://www.w3.org/2000/svg';
 const MARGIN = 14;
@@ -33,7 +34,7 @@ function box({ name, kind, x, y, width, height, lines, size }) {
   return shape('g', { class: kind, 'data-name': name }, shape('rect', { x: x - width / 2, y: y - height / 2, width, height }), ...texts);
 }
 
-export function showPicture(picture, title) {
+function showPicture(picture, title) {
   const points = [...picture.boxes.flatMap(({ x, y, width, height }) => [[x - width / 2, y - height / 2], [x + width / 2, y + height / 2]]),
     ...picture.edges.flatMap((each) => each.points)];
   const [left, top] = [0, 1].map((axis) => Math.min(...points.map((point) => point[axis])) - MARGIN);
@@ -48,3 +49,5 @@ export function showPicture(picture, title) {
 }
 
 byId('fit').addEventListener('change', () => byId('picture').classList.toggle('fits', byId('fit').checked));
+
+module.exports = { showPicture };

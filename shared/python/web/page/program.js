@@ -1,25 +1,24 @@
+'use strict';
 // What the page shows of JavaScript: outcomes as a table, data races and what nothing ends, each with an execution, and what jslit-js
 // prints.
 
-import { clearFault, showRefusal } from './editor.js';
-import { Session } from './javascript.js';
-import { byId, grouped, make } from './make.js';
-import { say } from './verdict.js';
+const { clearFault, showRefusal } = require('./editor.js');
+const { Session } = require('./javascript.js');
+const { byId, grouped, make } = require('./make.js');
+const { say } = require('./verdict.js');
 
 const MAIN = 'program.js';
 const USE = 'harness.js';
 let session = null;
-let turns = 0;     // how often something was run
 let title = '';    // of the lines that are asked for
 
 // Ends what runs, and what was told of it can't be asked about any more.
-export function stopProgram() {
-  turns += 1;
+function stopProgram() {
   session?.end();
   session = null;
 }
 
-export function hideProgram() {
+function hideProgram() {
   stopProgram();
   byId('program').hidden = true;
 }
@@ -87,18 +86,9 @@ function refused({ text, file, line }) {
 }
 
 // Runs the text with its harness; `done` is called once there is an answer or none is to come.
-export async function runProgram(text, use, done) {
+function runProgram(text, use, done) {
   hideProgram();
   clearFault();
-  const turn = turns;
-  const isThere = await fetch('/sandbox.html', { method: 'HEAD' }).then(({ ok }) => ok, () => null);
-  if (turn !== turns) return;
-  if (!isThere) {
-    done();
-    say('failed', isThere === null ? 'No answer: the server of this page doesn\u2019t answer.'
-      : 'JavaScript needs Debian\u2019s package node-acorn where jslit-page runs.');
-    return;
-  }
   const mine = new Session({ files: [[MAIN, text]], use: use.trim() === '' ? null : { name: USE, text: use } }, (message) => {
     if (mine !== session) return;
     done();
@@ -117,3 +107,5 @@ byId('ask-outcome').addEventListener('submit', (event) => {
   event.preventDefault();
   askMore(`Outcome ${byId('words').value}`, { outcome: byId('words').value });
 });
+
+module.exports = { hideProgram, runProgram, stopProgram };

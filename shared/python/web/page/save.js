@@ -1,18 +1,19 @@
+'use strict';
 // Files that the reader saves: a text, or the picture as SVG or PNG, in the colours of paper.
 
-import { byId, make } from './make.js';
+const { byId, make } = require('./make.js');
 
 const LARGER = 2;   // dots of a PNG for one of the picture
 const KEPT = ['fill', 'stroke', 'stroke-width', 'stroke-dasharray', 'rx',
   'font-family', 'font-size', 'font-weight', 'text-anchor', 'dominant-baseline'];
 
-export function saveBlob(name, blob) {
+function saveBlob(name, blob) {
   const address = URL.createObjectURL(blob);
   make('a', { href: address, download: name }).click();
   setTimeout(() => URL.revokeObjectURL(address), 10_000);
 }
 
-export const saveText = (name, text) => saveBlob(name, new Blob([text], { type: 'text/plain' }));
+const saveText = (name, text) => saveBlob(name, new Blob([text], { type: 'text/plain' }));
 
 // Gives `use` a copy of the picture whose shapes have their looks with them.
 function withCopy(use) {
@@ -37,7 +38,7 @@ function box(copy) {
   return { x, y, width, height };
 }
 
-export function saveSvg(name) {
+function saveSvg(name) {
   withCopy((copy, paper) => {
     const field = document.createElementNS('http://www.w3.org/2000/svg', 'rect');
     for (const [key, value] of Object.entries({ ...box(copy), fill: paper })) field.setAttribute(key, value);
@@ -70,7 +71,7 @@ function paint(brush, shape) {
   brush.stroke(way);
 }
 
-export function savePng(name) {
+function savePng(name) {
   withCopy((copy, paper) => {
     const { x, y, width, height } = box(copy);
     const canvas = make('canvas', { width: Math.ceil(LARGER * width), height: Math.ceil(LARGER * height) });
@@ -84,3 +85,5 @@ export function savePng(name) {
     canvas.toBlob((blob) => saveBlob(name, blob), 'image/png');
   });
 }
+
+module.exports = { saveBlob, savePng, saveSvg, saveText };

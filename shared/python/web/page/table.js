@@ -1,6 +1,7 @@
+'use strict';
 // The table of outcomes: sorted and filtered by register, and walked by the arrow keys.
 
-import { byId, grouped, make } from './make.js';
+const { byId, grouped, make } = require('./make.js');
 
 let outcomes = [];
 let registers = [];
@@ -15,7 +16,7 @@ const key = (outcome, column) => {
   return column > registers.length ? Number(!outcome.meets) : outcome.values[column - 1][1];
 };
 
-export function setOutcomes(given, act) {
+function setOutcomes(given, act) {
   outcomes = given;
   registers = given.length ? given[0].values.map(([name]) => name) : [];
   order = { column: 0, falls: false };
@@ -60,7 +61,7 @@ function filter(name, column) {
   return make('td', {}, select);
 }
 
-export const spoken = (outcome) => outcome.values.map(([name, value]) => `${name}=${value}`).join(' ');
+const spoken = (outcome) => outcome.values.map(([name, value]) => `${name}=${value}`).join(' ');
 
 function row(outcome) {
   const button = make('button', { type: 'button', tabindex: -1, 'aria-label': `Outcome ${outcome.number}: ${spoken(outcome)}, ${
@@ -108,7 +109,7 @@ function render() {
 }
 
 // Chooses the outcome with these values; whether there is one among those that have arrived.
-export function chooseValues(values) {
+function chooseValues(values) {
   const outcome = outcomes.find((each) => spoken(each) === values);
   if (!outcome) return false;
   if (!chosen().includes(outcome)) {
@@ -121,3 +122,5 @@ export function chooseValues(values) {
 }
 
 byId('met').addEventListener('change', render);
+
+module.exports = { chooseValues, setOutcomes, spoken };

@@ -1,9 +1,10 @@
+'use strict';
 // Stepping through a schedule: a turn for each press of an agent's button.
 
-import { ask, stop } from './ask.js';
-import { byId, make } from './make.js';
-import { text } from './editor.js';
-import { chooseValues } from './table.js';
+const { ask, stop } = require('./ask.js');
+const { byId, make } = require('./make.js');
+const { text } = require('./editor.js');
+const { chooseValues } = require('./table.js');
 
 let turns = [];
 let names = [];
@@ -11,7 +12,7 @@ let names = [];
 const agentsOf = (value) => [...value.matchAll(/^[ \t\r]*agent[ \t\r]+(\w+)/gm)].map((found) => found[1]);
 
 // The buttons are those of the agents that the text has now.
-export function newText() {
+function newText() {
   stop('turns');
   names = [...new Set(agentsOf(text()))].slice(0, 8);
   turns = [];
@@ -56,3 +57,5 @@ function back(next, button) {
 
 byId('undo').addEventListener('click', () => back(turns.slice(0, -1), byId('undo')));
 byId('clear').addEventListener('click', () => back([], byId('clear')));
+
+module.exports = { newText };

@@ -1,0 +1,60 @@
+'use strict';
+// What the proved programs answer to commands: jslit by its report, jslit-text by what it says of a text, jslit-why by its JSON.
+
+const { Failure } = require('./failure.js');
+const { KeptReport } = require('./kept_report.js');
+const { plain } = require('./lines.js');
+const { runOf } = require('./running.js');
+const { Execution, fromWords } = require('./executions/execution.js');
+
+// What the program prints on a text, as a report of which the outcomes from place `first` on are kept, as many as `most`; null where it
+// prints none.
+async function reportOf(program, words, data, { first = 0, most = 0, limit = null } = {}) {
+  const report = new KeptReport(first, most);
+  let fault = null;
+  const take = (piece) => {
+    try {
+      report.take(piece);
+      return true;
+    } catch (error) {
+      fault = error;
+      return false;
+    }
+  };
+  const run = await runOf(program, words, data, { limit, take });
+  try {
+    if (fault === null && run.whole && !run.late) return { run, report: report.close() };
+  } catch {
+    // It breaks off.
+  }
+  return { run, report: null };
+}
+
+const silent = ({ status, signal, said }) => said.trim() || (signal ? `it ended by ${signal}` : `status ${status}`);
+
+// What jslit-text says of a text: docs/schemas/text.json.
+async function tellText(program, name, data) {
+  const run = await runOf(program, [], data);
+  if (run.status === 3) throw new Failure(3, `${plain(name)}: out of memory`);
+  if (run.status !== 0 && run.status !== 1) throw new Failure(70, `${plain(program)}: ${plain(silent(run))}`);
+  return JSON.parse(run.out);
+}
+
+// What jslit-why answers to these words about a text, within so many milliseconds.
+async function tellWhy(program, words, name, data, limit = null) {
+  const run = await runOf(program, ['--json', ...words], data, { limit });
+  const said = run.out.trim();
+  if (run.late) throw new Failure(5, `${plain(name)}: no answer within ${(limit / 1000).toFixed(1)} seconds`);
+  if ((run.status === 0 || run.status === 1) && said.startsWith('{')) return JSON.parse(said);
+  if (run.status === 1) throw new Failure(1, `${plain(name)}: ${said}; jslit-explain says more`);
+  if (run.status === 3) throw new Failure(3, `${plain(name)}: out of memory`);
+  throw new Failure(70, `${plain(program)}: ${plain(silent(run))}`);
+}
+
+// What asks jslit-why for the execution with these sources and values, or gives null where no choice has them.
+const executionOf = (program, name, data) => async (sources, values, limit) => {
+  const answer = await tellWhy(program, ['--from', fromWords(sources, values)], name, data, limit);
+  return answer.execution ? new Execution(answer.execution) : null;
+};
+
+module.exports = { executionOf, reportOf, runOf, silent, tellText, tellWhy };
