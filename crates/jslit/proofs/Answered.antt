@@ -10,7 +10,7 @@ use Rattle.lit_print.specs.declared.counted.Counted.{Counted}
 use Rattle.jslit.specs.Answer.{IsCheckStatus}
 use Rattle.lit_print.specs.Counted.{device_of, failures_of}
 use Rattle.jslit.specs.Devices.{OfToldText}
-use Rattle.jslit.specs.Internal.Saying.{IsExplained}
+use Rattle.lit_words.specs.Answered.{IsExplained}
 use Rattle.jslit.specs.declared.fault.RunFault.{RunFault}
 use Rattle.jslit.specs.ProgramAnswer.{HasAnswered, IsAnswerBy, IsFaultBy}
 use Rattle.jslit.specs.RunAnswer.{HasServed}

@@ -6,10 +6,9 @@ use Rattle.std.specs.Result.{IsErrAnd}
 use Rattle.lit_syntax.specs.declared.limits.TheConstants.{TEXT_LIMIT}
 use Rattle.jslit.specs.Answer.{HasGrown, HasGrownSome}
 use Rattle.lit_print.specs.Counted.{device_of, failures_of, one_more}
-use Rattle.jslit.specs.Devices.{ConsumesBeginning, ConsumesTold, IsTold}
+use Rattle.jslit.specs.Devices.{ConsumesBeginning, ConsumesTold, IsReadFailure, IsTold}
 use Rattle.jslit.specs.RunAnswer.{HasRun}
 use Rattle.jslit.specs.Internal.Answering.{IsOfTextOrWriting}
-use Rattle.jslit.specs.Internal.Reading.{IsReadFailure}
 use Rattle.lit_print.specs.declared.counted.Counted.{Counted}
 use Rattle.jslit.specs.declared.fault.RunFault.{RunFault}
 use Rattle.jslit.specs.declared.fault.RunFault.TheVariants as faults

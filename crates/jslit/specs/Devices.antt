@@ -1,8 +1,10 @@
 -- What a run does to the devices that it reads from and writes to.
-use Rattle.std.specs.Prelude.{◌≡◌, ℕ, ◌+◌, ◌≤◌, Option, IfSome, List, length, take}
+use Rattle.std.specs.Prelude.{◌≡◌, ℕ, ◌+◌, ◌≤◌, ◌<◌, Option, IfSome, List, length, take}
 use Rattle.std.specs.Option.{option_map}
 use Rattle.std.specs.Io.KnownBytes.{Consumes}
 use Rattle.lit_syntax.specs.declared.limits.TheConstants.{TEXT_LIMIT}
+use Rattle.jslit.specs.declared.fault.RunFault.{RunFault}
+use Rattle.jslit.specs.declared.fault.RunFault.TheVariants.{InputFailed, OutOfMemory}
 
 -- the bytes that a reader tells: up to its end, or to one more than a text may have
 abbrev pub told : Option (List ℕ) → Option (List ℕ)
@@ -27,3 +29,9 @@ pub record ConsumesBeginning (old new : Option (List ℕ)) (limit : ℕ) : Type 
 -- known bytes lose those that are told, and no more
 abbrev pub ConsumesTold : Option (List ℕ) → Option (List ℕ) → Type 0
 ConsumesTold old new = IfSome (told old) (Consumes old new)
+
+-- the input's count of failures rose, or memory ran out and the count stayed
+abbrev pub IsReadFailure : (before after : ℕ) → RunFault → Type 0
+IsReadFailure before after InputFailed = before < after
+IsReadFailure before after OutOfMemory = after ≡ before
+IsReadFailure before after _ = ⊥

@@ -2,15 +2,12 @@
 
 ghost use Rattle.std.specs.Prelude.{◌≡◌, ◌≢◌, ◌⊎◌, ◌<◌, ◌^◌, ◌-◌, map, option_map, IfErr, OnOk};
 ghost use Rattle.std.specs.Io.KnownBytes.{Keeps};
-ghost use Rattle.std.specs.IoError.{error_kind};
-ghost use Rattle.std.specs.declared.io.ErrorKind.TheVariants.{OutOfMemory};
 ghost use Rattle.jslit.specs.Answer.{IsAnswerOn, IsCheckStatus, IsFaultOn, IsStatus, status_of};
 ghost use Rattle.lit_print.specs.Counted.{device_of, failures_of};
 ghost use Rattle.jslit.specs.InterleavingAnswer.{IsInterleavingOn, IsScheduleFaultOn};
 ghost use Rattle.jslit.specs.ProgramAnswer.{HasAnswered, IsAnswerBy, IsFaultBy};
 ghost use Rattle.jslit.specs.RunAnswer.{HasSaid, HasServed};
-ghost use Rattle.jslit.specs.Internal.Saying.{IsExplained, IsSaid};
-ghost use Rattle.clap.specs.Words.{kind_of};
+ghost use Rattle.jslit.specs.Internal.Saying.{IsSaid};
 
 use crate::engine::workers::passes;
 use crate::engine::{run_alone, run_watched};
@@ -18,17 +15,15 @@ use crate::fault::RunFault;
 use crate::interleaving::run_schedule;
 use crate::report::refusal_writer::{write_plan_fault, write_read_fault, write_unknown_agent};
 use crate::watch::Watch;
-use clap::Error;
-use clap::error::ErrorKind;
 use lit_print::Counted;
 use lit_share::OpenGate;
-use lit_words::{Line, Options, line};
+use lit_words::{Line, Options, explain_words, line};
 use std::alloc::Global;
 use std::convert::AsStr;
+use std::fs;
 use std::io::{Read, Write};
 use std::rt::Files;
 use std::thread::Threads;
-use std::{fs, io};
 
 /// Does what the words ask for: checks the litmus text of the file that they name, or else of the input, carries it out
 /// in the turns that they name, or prints the help or the version. Gives the status: 0 for what was asked for, 1 for a text, test or
@@ -78,7 +73,7 @@ pub fn program_watched<
 {
     let line = match line(alloc, words) {
         Ok(line) => line,
-        Err(error) => return explain(output, errors, &error),
+        Err(error) => return explain_words(output, errors, &error),
     };
     let Some(path) = line.file else {
         return serve(rt, alloc, input, output, errors, &line, watch);
@@ -255,40 +250,4 @@ pub fn say<W: Write, E: Write>(output: &mut Counted<W>, errors: &mut E, fault: R
             4
         }
     }
-}
-
-/// Prints what `clap` answers to words that ask for no run: the help, the version, or what is wrong with them. Gives the status.
-fn explain<W: Write, E: Write>(output: &mut Counted<W>, errors: &mut E, error: &Error) -> u8
-    ensures status { IsExplained (kind_of error.now) result }
-    ensures unchanged { result ≢ 0 → output.new ≡ output.old }
-{
-    match error.kind() {
-        ErrorKind::OutOfMemory => say(output, errors, RunFault::OutOfMemory),
-        ErrorKind::DisplayHelp | ErrorKind::DisplayVersion => {
-            let _ = write!(output, "{error}");
-            let _ = output.flush();
-            0
-        }
-        _ => {
-            let _ = write!(errors, "{error}");
-            2
-        }
-    }
-}
-
-/// Prints why the words of the command line could not be read, and gives the status: 3 where memory ran out, and else 2,
-/// for words that are not text (decision 76).
-pub fn no_words<E: Write>(errors: &mut E, error: &io::Error) -> u8
-    ensures memory { error_kind error.now ≡ OutOfMemory → result ≡ 3 }
-    ensures other { error_kind error.now ≢ OutOfMemory → result ≡ 2 }
-{
-    if error.kind() == io::ErrorKind::OutOfMemory {
-        let _ = writeln!(errors, "{}", RunFault::OutOfMemory);
-        return 3;
-    }
-    let _ = writeln!(
-        errors,
-        "error: a word of the command line is not text in UTF-8"
-    );
-    2
 }

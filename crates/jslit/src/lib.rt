@@ -20,12 +20,14 @@ mod verdict;
 mod watch;
 
 pub use command::{
-    check, check_alone, check_schedule, check_watched, no_words, program, program_watched, say,
+    check, check_alone, check_schedule, check_watched, program, program_watched, say,
 };
 pub use engine::{run, run_alone, run_watched};
 pub use fault::RunFault;
 pub use interleaving::run_schedule;
 pub use lit_print::Counted;
-pub use lit_words::{Line, Options, VERSION, line};
+pub use lit_words::{Line, Options, VERSION, explain_words, line, no_words, words_of};
 pub use progress::Progress;
+pub use reading::read_text;
+pub use report::write_bytes;
 pub use watch::Watch;

@@ -3,8 +3,8 @@
 ghost use Rattle.std.specs.Prelude.{◌≡◌, ◌+◌, ◌-◌, ◌^◌, ◌<◌, ◌≤◌, length, vec_len, IfOk, OnOk, IfErr};
 ghost use Rattle.std.specs.Io.KnownBytes.{Consumes};
 ghost use Rattle.lit_print.specs.Counted.{device_of, failures_of};
-ghost use Rattle.jslit.specs.Devices.{IsTold, ConsumesBeginning};
-ghost use Rattle.jslit.specs.Internal.Reading.{HasRead, IsReadFailure};
+ghost use Rattle.jslit.specs.Devices.{ConsumesBeginning, IsReadFailure, IsTold};
+ghost use Rattle.jslit.specs.Internal.Reading.{HasRead};
 
 use crate::fault::RunFault;
 use lit_print::Counted;
@@ -42,13 +42,14 @@ fn read_some<R: Read>(
     }
 }
 
-/// The bytes of the input, up to its end or to `READ_LIMIT`. It reads no byte behind them.
-pub(crate) fn read_text<R: Read>(alloc: Global, input: &mut Counted<R>) -> Result<Vec<u8>, RunFault>
+/// The bytes of the input, up to its end or to one more than a text may have. It reads no byte behind them. Answers
+/// `RunFault::InputFailed` where a read failed, and `RunFault::OutOfMemory` where a growth was refused.
+pub fn read_text<R: Read>(alloc: Global, input: &mut Counted<R>) -> Result<Vec<u8>, RunFault>
     requires { failures_of input.old < 2 ^ 64 - 1 }
     ensures text { IfOk result (λ text. IsTold (R.remaining (device_of input.old)) text.items) }
     ensures whole { IfOk result (λ text. Consumes (R.remaining (device_of input.old)) (R.remaining (device_of input.new)) text.items) }
     ensures not_failed { OnOk result (failures_of input.new ≡ failures_of input.old) }
-    ensures consumed { ConsumesBeginning (R.remaining (device_of input.old)) (R.remaining (device_of input.new)) READ_LIMIT }
+    ensures consumed { ConsumesBeginning (R.remaining (device_of input.old)) (R.remaining (device_of input.new)) (TEXT_LIMIT + 1) }
     ensures failed { IfErr result (IsReadFailure (failures_of input.old) (failures_of input.new)) }
 {
     let mut text = Vec::new(alloc);

@@ -4,8 +4,9 @@ pub(crate) mod refusal_writer;
 pub(crate) mod report_writer;
 
 ghost use Rattle.std.specs.Prelude.{◌≡◌, IfErr, OnOk, OnErr};
-ghost use Rattle.lit_print.specs.Counted.{device_of, failures_of};
-ghost use Rattle.lit_print.specs.Writing.{IsFinished, IsStopped, writing_of};
+ghost use Rattle.std.specs.Io.KnownBytes.{Appends};
+ghost use Rattle.lit_print.specs.Counted.{device_of, failures_of, one_more};
+ghost use Rattle.lit_print.specs.Writing.{AppendsBeginning, IsFinished, IsStopped, writing_of};
 
 use crate::fault::RunFault;
 use lit_print::{Buffer, Counted};
@@ -23,4 +24,17 @@ pub(crate) fn finish<W: Write>(buffer: Buffer, output: &mut Counted<W>) -> Resul
         Ok(()) => Ok(()),
         Err(_) => Err(RunFault::OutputFailed),
     }
+}
+
+/// Writes bytes. Takes no memory. Answers `RunFault::OutputFailed` where a write failed: a beginning of the bytes was written then.
+pub fn write_bytes<W: Write>(output: &mut Counted<W>, bytes: &[u8]) -> Result<(), RunFault>
+    ensures written { OnOk result (Appends (W.contents (device_of output.old)) (W.contents (device_of output.new)) bytes.now) }
+    ensures not_failed { OnOk result (failures_of output.new ≡ failures_of output.old) }
+    ensures begun { OnErr result (AppendsBeginning (W.contents (device_of output.old)) (W.contents (device_of output.new)) bytes.now) }
+    ensures failed { OnErr result (failures_of output.new ≡ one_more (failures_of output.old)) }
+    ensures fault { IfErr result (λ fault. fault ≡ RunFault.OutputFailed) }
+{
+    let mut buffer = Buffer::new();
+    buffer.put(output, bytes);
+    finish(buffer, output)
 }

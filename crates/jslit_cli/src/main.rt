@@ -5,19 +5,12 @@
 mod terminal;
 
 use crate::terminal::Terminal;
-use jslit::{Counted, Progress, no_words, program_watched};
+use jslit::{Counted, Progress, no_words, program_watched, words_of};
 use std::process::ExitCode;
-use std::{env, io};
-
-/// The words of the command line, the program's name first.
-fn words(rt: &HostRuntime) -> io::Result<Vec<String>> {
-    let words = env::args(rt)?.collect(rt.alloc())?;
-    Ok(words)
-}
 
 fn main(rt: HostRuntime) -> ExitCode {
     let mut errors = rt.stderr();
-    let words = match words(&rt) {
+    let words = match words_of(&rt) {
         Ok(words) => words,
         Err(error) => return ExitCode::from(no_words(&mut errors, &error)),
     };

@@ -1,13 +1,12 @@
 -- What a call that explains hands out (this project's own).
-use Rattle.std.specs.Prelude.{◌≡◌, ◌≢◌, ◌⊎◌, ◌≤◌, ◌<◌, ℕ, Bool, List, [], None, IfSome}
-use Rattle.lit_reason.specs.declared.explanation.Answer.{Answer}
+use Rattle.std.specs.Prelude.{◌≡◌, ◌≢◌, ◌⊎◌, ◌≤◌, ◌<◌, ℕ, List, [], None, IfSome}
 use Rattle.lit_reason.specs.declared.fault.ReasonFault.{ReasonFault}
 use Rattle.lit_reason.specs.declared.fault.ReasonFault.TheVariants as faults
 use Rattle.lit_reason.specs.declared.question.Asked.{Asked}
 use Rattle.lit_reason.specs.declared.question.Question.{Question}
 use Rattle.lit_reason.specs.declared.question.Question.TheVariants.{InClass, OfChoice, OfSources, Race}
 use Rattle.lit_reason.specs.declared.question.TheConstants.{MOST_LIMIT}
-use Rattle.lit_reason.specs.Explained.{HasAnswerOn, IsFaultOn}
+use Rattle.lit_reason.specs.Explained.{IsFaultOn}
 use Rattle.lit_valid.specs.declared.class.Class.TheVariants.{Met, Unmet}
 use Rattle.jslit.specs.RefusalText.{plan_fault_line, read_fault_line}
 
@@ -36,13 +35,6 @@ pub record AsksFor (number choice : ℕ) (words condition : List ℕ) (asked : A
 -- what may not be asked: a question with such a number, words or a condition may be none, and so many attempts are too many
 abbrev pub MayNotAsk : (number : ℕ) → (condition : List ℕ) → (most : ℕ) → Type 0
 MayNotAsk number condition most = (4 ≤ number) ⊎ (condition ≢ []) ⊎ (MOST_LIMIT < most)
-
--- the text of an answer to what is asked, which says whether there is a choice as it is asked for
-pub record IsReasonOn (text : List ℕ) (asked : Asked) (found : Bool) (bytes : List ℕ) : Type 0 where
-  pub answer : Answer
-  pub on : HasAnswerOn text asked answer
-  pub finds : answer.found ≡ found
-  pub is : bytes ≡ answer.text.items
 
 -- the line of a refusal, and of no other fault
 abbrev pub IsLineOf : ReasonFault → List ℕ → Type 0

@@ -2,7 +2,8 @@
 
 ghost use Rattle.std.specs.Prelude.{◌≡◌, ◌≢◌, ◌⊎◌, ◌≤◌, ◌<◌, true, false, None, IfNone, IfSome};
 ghost use Rattle.jslit_embed.specs.Handed.{HandsNothing, HandsSome};
-ghost use Rattle.jslit_embed.specs.Why.{AsksFor, IsQuestionOf, IsReasonOn, IsRefusalOn, IsWhyStatus, MayNotAsk};
+ghost use Rattle.jslit_embed.specs.Why.{AsksFor, IsQuestionOf, IsRefusalOn, IsWhyStatus, MayNotAsk};
+ghost use Rattle.lit_reason.specs.Explained.{IsReasonOn};
 ghost use Rattle.lit_reason.specs.declared.question.TheConstants.{MOST_LIMIT};
 
 use crate::handing::{hand_nothing, hand_out, hand_said};

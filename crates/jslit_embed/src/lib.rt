@@ -14,8 +14,9 @@ ghost use Rattle.std.specs.Prelude.{◌≡◌, ◌⊎◌, true, false};
 ghost use Rattle.jslit.specs.Answer.{IsAnswerOn, IsFaultOn};
 ghost use Rattle.jslit.specs.InterleavingAnswer.{IsInterleavingOn, IsScheduleFaultOn};
 ghost use Rattle.jslit_embed.specs.Handed.{HandsAnswer, HandsNothing, HandsRefusal, HandsSome, IsEmbedStatus};
-ghost use Rattle.jslit_embed.specs.Why.{AsksFor, IsReasonOn, IsRefusalOn, IsWhyStatus, MayNotAsk};
+ghost use Rattle.jslit_embed.specs.Why.{AsksFor, IsRefusalOn, IsWhyStatus, MayNotAsk};
 ghost use Rattle.lit_json.specs.Line.{IsLineOn};
+ghost use Rattle.lit_reason.specs.Explained.{IsReasonOn};
 ghost use Rattle.lit_reason.specs.declared.question.Asked.{Asked};
 
 use crate::explaining::{asked_of, why};

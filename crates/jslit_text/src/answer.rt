@@ -3,8 +3,6 @@
 ghost use Rattle.std.specs.Prelude.{◌≡◌, ◌⊎◌, ℕ, List, true, false};
 ghost use Rattle.jslit_text.specs.Told.{HasTold};
 
-use clap::Error;
-use clap::error::ErrorKind;
 use lit_json::text_line;
 use lit_syntax::TEXT_LIMIT;
 use lit_words::VERSION;
@@ -61,7 +59,7 @@ fn answer_text<W: Write, E: Write>(alloc: Global, text: &[u8], output: &mut W, e
 }
 
 /// Prints the line of a fault of the input. Gives the status.
-pub(crate) fn refuse<E: Write>(errors: &mut E, error: &io::Error) -> u8
+fn refuse<E: Write>(errors: &mut E, error: &io::Error) -> u8
     ensures { (result ≡ 3) ⊎ (result ≡ 4) }
 {
     if error.kind() == io::ErrorKind::OutOfMemory {
@@ -77,24 +75,4 @@ fn say<E: Write>(errors: &mut E, said: &str, status: u8) -> u8
 {
     let _ = writeln!(errors, "{said}");
     status
-}
-
-/// Prints what `clap` answers to words that ask for no text: the help, or what is wrong with them. Gives the status.
-pub(crate) fn explain_words<W: Write, E: Write>(
-    output: &mut W,
-    errors: &mut E,
-    error: &Error,
-) -> u8 {
-    match error.kind() {
-        ErrorKind::OutOfMemory => say(errors, "out_of_memory", 3),
-        ErrorKind::DisplayHelp | ErrorKind::DisplayVersion => {
-            let _ = write!(output, "{error}");
-            let _ = output.flush();
-            0
-        }
-        _ => {
-            let _ = write!(errors, "{error}");
-            2
-        }
-    }
 }

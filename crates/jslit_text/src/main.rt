@@ -4,22 +4,16 @@
 mod answer;
 mod command;
 
-use crate::answer::{answer, explain_words, refuse};
+use crate::answer::answer;
 use crate::command::file_of;
+use lit_words::{explain_words, no_words, words_of};
 use std::process::ExitCode;
-use std::{env, io};
-
-/// The words of the command line, the program's name first.
-fn words(rt: &HostRuntime) -> io::Result<Vec<String>> {
-    let words = env::args(rt)?.collect(rt.alloc())?;
-    Ok(words)
-}
 
 fn main(rt: HostRuntime) -> ExitCode {
     let mut errors = rt.stderr();
-    let words = match words(&rt) {
+    let words = match words_of(&rt) {
         Ok(words) => words,
-        Err(error) => return ExitCode::from(refuse(&mut errors, &error)),
+        Err(error) => return ExitCode::from(no_words(&mut errors, &error)),
     };
     let mut output = rt.stdout();
     let status = match file_of(rt.alloc(), &words) {

@@ -1,80 +1,113 @@
 //! The program: what it prints, and its status.
 
-ghost use Rattle.std.specs.Prelude.{◌<◌, ◌^◌, ◌-◌};
-ghost use Rattle.lit_print.specs.Counted.{failures_of};
+ghost use Rattle.std.specs.Prelude.{◌≡◌, ◌⊎◌, ◌<◌, ◌^◌, ◌-◌, IsFalse, IsTrue, true};
+ghost use Rattle.std.specs.Io.KnownBytes.{Appends};
+ghost use Rattle.jslit.specs.Answer.{IsStatus};
+ghost use Rattle.jslit.specs.Devices.{OfToldText};
+ghost use Rattle.jslit_why.specs.Printed.{HasBegun, HasExplained, HasRefused};
+ghost use Rattle.lit_print.specs.Counted.{device_of, failures_of};
+ghost use Rattle.lit_print.specs.Writing.{AppendsBeginning};
+ghost use Rattle.lit_reason.specs.Explained.{HasOtherCondition};
 
-use crate::line::{CommandLine, line};
-use clap::Error;
-use clap::error::ErrorKind;
-use jslit::{Counted, RunFault, say};
-use lit_reason::{ReasonFault, explain};
-use lit_syntax::TEXT_LIMIT;
+use crate::line::line;
+use jslit::{Counted, RunFault, explain_words, read_text, say, write_bytes};
+use lit_reason::{Asked, ReasonFault, explain};
 use std::alloc::Global;
 use std::convert::AsStr;
+use std::fs;
 use std::io::{Read, Write};
 use std::rt::Files;
-use std::{fs, io};
 
-/// Does what the words ask for. Gives the status: 0 for an explanation, 1 for a text or test that is refused, 2 for a fault of
-/// the words, 3 where memory ran out, 4 for an input or output that failed.
-pub(crate) fn program<T: Files, S: AsStr, R: Read + Drop, W: Write, E: Write>(
+/// Does what the words ask for. Gives the status: 0 for an explanation, 1 for a choice that there is none of and for a text or test that
+/// is refused, 2 for a fault of the words, 3 where memory ran out, 4 for an input or output that failed.
+pub(crate) fn program<T: Files, S: AsStr, R: Read, W: Write, E: Write>(
     rt: &T,
     alloc: Global,
     words: &[S],
-    input: R,
+    input: &mut Counted<R>,
     output: &mut Counted<W>,
     errors: &mut E,
 ) -> u8
-    requires { failures_of output.old < 2 ^ 64 - 1 }
+    requires input { failures_of input.old < 2 ^ 64 - 1 }
+    requires output { failures_of output.old < 2 ^ 64 - 1 }
+    ensures status { IsStatus result }
+    ensures words { result ≡ 2 → output.new ≡ output.old }
+    ensures memory { result ≡ 3 → output.new ≡ output.old }
 {
     let line = match line(alloc, words) {
         Ok(line) => line,
         Err(error) => return explain_words(output, errors, &error),
     };
     let Some(path) = line.file else {
-        return answer_text(alloc, read_text(alloc, input), output, errors, &line);
+        return answer(alloc, input, output, errors, &line.asked);
     };
     match fs::open(rt, path) {
-        Ok(file) => answer_text(alloc, read_text(alloc, file), output, errors, &line),
+        Ok(file) => {
+            let mut opened = Counted::new(file);
+            answer(alloc, &mut opened, output, errors, &line.asked)
+        }
         Err(_) => say(output, errors, RunFault::InputFailed),
     }
 }
 
-/// The bytes of the input, up to one more than a text may have.
-fn read_text<R: Read + Drop>(alloc: Global, input: R) -> io::Result<Vec<u8>> {
-    let mut text = Vec::new(alloc);
-    input.take(TEXT_LIMIT as u64 + 1).read_to_end(&mut text)?;
-    Ok(text)
-}
-
-/// The fault of a read or of a growth.
-fn fault_of(error: &io::Error, other: RunFault) -> RunFault {
-    if error.kind() == io::ErrorKind::OutOfMemory {
-        RunFault::OutOfMemory
-    } else {
-        other
+/// Prints the answer to what is asked about the litmus text of the input, or why there is none. Gives the status.
+fn answer<R: Read, W: Write, E: Write>(
+    alloc: Global,
+    input: &mut Counted<R>,
+    output: &mut Counted<W>,
+    errors: &mut E,
+    asked: &Asked<'_>,
+) -> u8
+    requires input { failures_of input.old < 2 ^ 64 - 1 }
+    requires output { failures_of output.old < 2 ^ 64 - 1 }
+    ensures status { IsStatus result }
+    ensures answered { result ≡ 0 → OfToldText (R.remaining (device_of input.old))
+        (λ text. HasExplained W.contents text asked.now true output.old output.new) }
+    ensures refused { result ≡ 1 → OfToldText (R.remaining (device_of input.old))
+        (λ text. HasRefused W.contents text asked.now output.old output.new) }
+    ensures other { result ≡ 2 → OfToldText (R.remaining (device_of input.old)) (λ text. HasOtherCondition text asked.now)
+        × (output.new ≡ output.old) }
+    ensures memory { result ≡ 3 → output.new ≡ output.old }
+    ensures begun { result ≡ 4 → (output.new ≡ output.old) ⊎ OfToldText (R.remaining (device_of input.old))
+        (λ text. HasBegun W.contents text asked.now output.old output.new) }
+{
+    match read_text(alloc, input) {
+        Ok(text) => answer_text(alloc, &text, output, errors, asked),
+        Err(fault) => say(output, errors, fault),
     }
 }
 
-/// Prints the answer to the words on a text, or why there is none. Gives the status.
+/// Writes bytes, and flushes. Gives whether neither failed.
+fn put<W: Write>(output: &mut Counted<W>, bytes: &[u8]) -> bool
+    ensures written { IsTrue result → Appends (W.contents (device_of output.old)) (W.contents (device_of output.new)) bytes.now }
+    ensures begun { IsFalse result → AppendsBeginning (W.contents (device_of output.old)) (W.contents (device_of output.new)) bytes.now }
+{
+    write_bytes(output, bytes).is_ok() && output.flush().is_ok()
+}
+
+/// Prints the answer to what is asked about a text, or why there is none. Gives the status.
 fn answer_text<W: Write, E: Write>(
     alloc: Global,
-    text: io::Result<Vec<u8>>,
+    text: &[u8],
     output: &mut Counted<W>,
     errors: &mut E,
-    line: &CommandLine<'_>,
+    asked: &Asked<'_>,
 ) -> u8
     requires { failures_of output.old < 2 ^ 64 - 1 }
+    ensures status { IsStatus result }
+    ensures answered { result ≡ 0 → HasExplained W.contents text.now asked.now true output.old output.new }
+    ensures refused { result ≡ 1 → HasRefused W.contents text.now asked.now output.old output.new }
+    ensures other { result ≡ 2 → HasOtherCondition text.now asked.now × (output.new ≡ output.old) }
+    ensures memory { result ≡ 3 → output.new ≡ output.old }
+    ensures begun { result ≡ 4 → HasBegun W.contents text.now asked.now output.old output.new }
 {
-    let text = match text {
-        Ok(text) => text,
-        Err(error) => return say(output, errors, fault_of(&error, RunFault::InputFailed)),
-    };
-    match explain(alloc, &text, &line.asked) {
-        Ok(answer) => match write_buffer(output, errors, &answer.text) {
-            0 if !answer.found => 1,
-            status => status,
-        },
+    match explain(alloc, text, asked) {
+        Ok(answer) => {
+            if !put(output, &answer.text) {
+                return say(output, errors, RunFault::OutputFailed);
+            }
+            if answer.found { 0 } else { 1 }
+        }
         Err(ReasonFault::Condition) => {
             let _ = errors.write_all(CONDITION_REFUSED.as_bytes());
             2
@@ -88,30 +121,3 @@ fn answer_text<W: Write, E: Write>(
 /// What is said where the condition of the words is none of the test.
 const CONDITION_REFUSED: &str =
     "error: invalid value for '--condition <COND>': it is no condition of this test\n";
-
-/// Writes a buffer. Gives the status.
-fn write_buffer<W: Write, E: Write>(output: &mut Counted<W>, errors: &mut E, buffer: &[u8]) -> u8 {
-    let Ok(()) = output.write_all(buffer) else {
-        return say(output, errors, RunFault::OutputFailed);
-    };
-    match output.flush() {
-        Ok(()) => 0,
-        Err(_) => say(output, errors, RunFault::OutputFailed),
-    }
-}
-
-/// Prints what `clap` answers to words that ask for no text: the help, or what is wrong with them. Gives the status.
-fn explain_words<W: Write, E: Write>(output: &mut Counted<W>, errors: &mut E, error: &Error) -> u8 {
-    match error.kind() {
-        ErrorKind::OutOfMemory => say(output, errors, RunFault::OutOfMemory),
-        ErrorKind::DisplayHelp | ErrorKind::DisplayVersion => {
-            let _ = write!(output, "{error}");
-            let _ = output.flush();
-            0
-        }
-        _ => {
-            let _ = write!(errors, "{error}");
-            2
-        }
-    }
-}

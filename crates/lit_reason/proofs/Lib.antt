@@ -1,3 +1,4 @@
 pub mod ExampleLemmas
+pub mod LineLemmas
 pub mod SubjectLemmas
 pub mod TextLemmas

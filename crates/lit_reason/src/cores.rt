@@ -1,10 +1,16 @@
-//! Unsatisfiable cores: a least part of a condition that no values of reads make true (decision 114).
+//! Unsatisfiable cores: a least part of a condition that no values of reads make true, by refinement with counterexamples (decision 114).
 
+ghost use Rattle.std.specs.Prelude.{◌≡◌, ◌++◌, ℕ, IfOk, List, codes};
+ghost use Rattle.lit_read.specs.CanonicalText.{canonical};
+ghost use Rattle.lit_reason.specs.OtherCondition.{IsBeforeLastLine};
+
+use crate::selection::final_value;
 use lit_paths::{Plan, PlanFault, plan};
 use lit_read::{ReadKind, read, show};
+use lit_rel::Part;
 use lit_search::Class;
 use lit_syntax::{Cond, Test};
-use lit_why::attempts;
+use lit_why::{attempts, part_of};
 use std::alloc::{AllocError, Global};
 use std::io;
 use std::io::Write;
@@ -14,6 +20,8 @@ use std::io::Write;
 struct Member<'c> {
     condition: &'c Cond,
     holds: bool,
+    /// Whether it is of the core.
+    is_chosen: bool,
 }
 
 /// Adds the members of the conjunction that a condition is, or its negation.
@@ -28,7 +36,11 @@ fn push_members<'c>(
         Cond::All(inner) if holds => push_each(members, inner, holds),
         Cond::Any(inner) if !holds => push_each(members, inner, holds),
         _ => {
-            members.push(Member { condition, holds })?;
+            members.push(Member {
+                condition,
+                holds,
+                is_chosen: false,
+            })?;
             Ok(())
         }
     }
@@ -105,77 +117,154 @@ fn put_condition(
     }
 }
 
-/// Puts the members of a conjunction, but the one at a place.
-fn put_without(
-    buffer: &mut Vec<u8>,
-    test: &Test,
-    members: &[Member<'_>],
-    without: Option<usize>,
-) -> io::Result<()> {
+/// Puts the conjunction of the members that are chosen.
+fn put_chosen(buffer: &mut Vec<u8>, test: &Test, members: &[Member<'_>]) -> io::Result<()> {
     let mut first = true;
-    for (place, member) in members.iter().enumerate() {
-        if without != Some(place) {
-            if !first {
-                buffer.write_all(b" && ")?;
-            }
-            first = false;
-            put_condition(buffer, test, member.condition, member.holds)?;
+    for member in members.iter().filter(|member| member.is_chosen) {
+        if !first {
+            buffer.write_all(b" && ")?;
         }
+        first = false;
+        put_condition(buffer, test, member.condition, member.holds)?;
     }
     Ok(())
 }
 
-/// Whether there is an attempt at the condition of a text. Of a text that is refused, which a condition can make too deep, this
-/// says that there is.
-fn has_attempt(alloc: Global, text: &[u8]) -> io::Result<bool> {
-    let test = match read(alloc, text) {
+/// Whether the values that registers have at the end of a part meet a condition.
+#[cycle(evaluation)]
+fn is_met(part: &Part<'_>, condition: &Cond) -> bool {
+    match condition {
+        Cond::Not(inner) => !is_met(part, inner),
+        Cond::All(inner) => !some_is(part, inner, false),
+        Cond::Any(inner) => some_is(part, inner, true),
+        Cond::Is {
+            agent,
+            reg,
+            equal,
+            value,
+        } => (final_value(part, usize::from(*agent), *reg) == *value) == *equal,
+    }
+}
+
+/// Whether some condition is met, or, if not `met`, isn't.
+#[cycle(evaluation)]
+fn some_is(part: &Part<'_>, conditions: &[Cond], met: bool) -> bool {
+    for condition in conditions {
+        if is_met(part, condition) == met {
+            return true;
+        }
+    }
+    false
+}
+
+/// The place of the last member that isn't chosen; 0 where each is.
+fn last_left(members: &[Member<'_>]) -> usize {
+    let mut last = 0;
+    for (place, member) in members.iter().enumerate() {
+        if !member.is_chosen {
+            last = place;
+        }
+    }
+    last
+}
+
+/// The place of the last member that isn't chosen and that the values of a part don't meet; where they meet all of these, of the last that
+/// isn't chosen.
+fn last_unmet(part: &Part<'_>, members: &[Member<'_>]) -> usize {
+    let mut refused = None;
+    for (place, member) in members.iter().enumerate() {
+        if !member.is_chosen && is_met(part, member.condition) != member.holds {
+            refused = Some(place);
+        }
+    }
+    refused.unwrap_or(last_left(members))
+}
+
+/// A member that the first attempt at those chosen doesn't meet, by its place; `None` where there is no attempt. Of a text that is
+/// refused, which a condition can make too deep, this says that there is one.
+fn unmet_by_attempt(
+    alloc: Global,
+    test: &Test,
+    members: &[Member<'_>],
+) -> io::Result<Option<usize>> {
+    let mut text = text_before_condition(alloc, test)?;
+    put_chosen(&mut text, test, members)?;
+    text.write_all(b"\n")?;
+    let test = match read(alloc, &text) {
         Ok(test) => test,
         Err(fault) if fault.kind == ReadKind::OutOfMemory => {
             return Err(io::Error::from(io::ErrorKind::OutOfMemory));
         }
-        Err(_) => return Ok(true),
+        Err(_) => return Ok(Some(last_left(members))),
     };
-    match plan(alloc, &test) {
-        Ok(plan) => {
-            let attempts = attempts(alloc, &plan, Class::Met, 1)?;
-            Ok(!attempts.is_empty())
+    let plan = match plan(alloc, &test) {
+        Ok(plan) => plan,
+        Err(PlanFault::OutOfMemory) => return Err(io::Error::from(io::ErrorKind::OutOfMemory)),
+        Err(_) => return Ok(Some(last_left(members))),
+    };
+    let found = attempts(alloc, &plan, Class::Met, 1)?;
+    match found.first() {
+        None => Ok(None),
+        Some(attempt) if attempt.choice < plan.total() => {
+            let part = part_of(&plan, attempt.choice);
+            Ok(Some(last_unmet(&part, members)))
         }
-        Err(PlanFault::OutOfMemory) => Err(io::Error::from(io::ErrorKind::OutOfMemory)),
-        Err(_) => Ok(true),
+        Some(_) => Ok(Some(last_left(members))),
+    }
+}
+
+/// Removes the last line of a text, and the byte 10 that ends it.
+fn pop_line(text: &mut Vec<u8>)
+    ensures { IsBeforeLastLine text.old.items text.new.items }
+{
+    text.pop();
+    'bytes: while !text.is_empty() && text[text.len() - 1] != b'\n' {
+        text.pop();
     }
 }
 
 /// The canonical text of a test up to its condition.
-pub(crate) fn text_before_condition(alloc: Global, test: &Test) -> io::Result<Vec<u8>> {
+pub(crate) fn text_before_condition(alloc: Global, test: &Test) -> io::Result<Vec<u8>>
+    ensures { IfOk result (λ text. (front : List ℕ) × IsBeforeLastLine (canonical test.now) front
+        × (text.items ≡ front ++ codes "check ")) }
+{
     let Ok(mut text) = show(alloc, test) else {
         return Err(io::Error::from(io::ErrorKind::OutOfMemory));
     };
-    // The last line goes: first the byte 10 that ends it, then all up to the one before.
-    text.pop();
-    for _ in 0..text.len() {
-        if text.last() == Some(&b'\n') {
-            break;
-        }
-        text.pop();
-    }
+    pop_line(&mut text);
     text.write_all(b"check ")?;
     Ok(text)
 }
 
-/// Removes members one after the other: each without which there is still no attempt at the others. `needed` counts those that stay.
-fn remove_needless(alloc: Global, test: &Test, members: &mut Vec<Member<'_>>) -> io::Result<()> {
-    let mut needed = 0;
+/// Chooses members until there is no attempt at those chosen: each is one that the last attempt doesn't meet. So one search alone goes
+/// through all, and the others end at what they find.
+fn choose(alloc: Global, plan: &Plan<'_>, members: &mut [Member<'_>]) -> io::Result<()> {
+    let mut next = Some(if plan.total() > 0 {
+        last_unmet(&part_of(&*plan, 0), members)
+    } else {
+        last_left(members)
+    });
     for _ in 0..members.len() {
-        if members.len() < 2 || needed >= members.len() {
-            return Ok(());
+        match next {
+            Some(place) if place < members.len() => members[place].is_chosen = true,
+            _ => return Ok(()),
         }
-        let mut text = text_before_condition(alloc, test)?;
-        put_without(&mut text, test, members.as_slice(), Some(needed))?;
-        text.write_all(b"\n")?;
-        if has_attempt(alloc, &text)? {
-            needed += 1;
-        } else {
-            members.remove(needed);
+        next = unmet_by_attempt(alloc, plan.test(), members)?;
+    }
+    Ok(())
+}
+
+/// Puts members back, one after the other: each without which there is still no attempt at the others.
+fn put_needless_back(alloc: Global, test: &Test, members: &mut [Member<'_>]) -> io::Result<()> {
+    let mut count = members.iter().filter(|member| member.is_chosen).count();
+    for place in 0..members.len() {
+        if count > 1 && members[place].is_chosen {
+            members[place].is_chosen = false;
+            if unmet_by_attempt(alloc, test, members)?.is_none() {
+                count -= 1;
+            } else {
+                members[place].is_chosen = true;
+            }
         }
     }
     Ok(())
@@ -192,6 +281,7 @@ pub(crate) fn put_core(
     let test = plan.test();
     let mut members = Vec::new(alloc);
     push_members(&mut members, test.check(), holds)?;
-    remove_needless(alloc, test, &mut members)?;
-    put_without(buffer, test, members.as_slice(), None)
+    choose(alloc, plan, &mut members)?;
+    put_needless_back(alloc, test, &mut members)?;
+    put_chosen(buffer, test, &members)
 }

@@ -3,6 +3,7 @@
 ghost use Rattle.std.specs.Prelude.{◌≡◌, ◌++◌, false, IfErr, IfOk, OnOk};
 ghost use Rattle.lit_reason.specs.AnswerText.{IsTextOn, no_choice_line, test_line};
 ghost use Rattle.lit_reason.specs.Explained.{HasAnswerOn, IsFaultOn, IsFoundOn, IsWithinLimits};
+ghost use Rattle.lit_reason.specs.OtherCondition.{IsTextWith};
 ghost use Rattle.lit_reason.specs.Internal.Subjects.{IsKnown, IsSubjectOf, IsSubjectText, IsTestFault, is_found};
 
 use crate::choices::choice_text;
@@ -190,7 +191,9 @@ fn answer_of(
 }
 
 /// The text of a test with another condition.
-fn text_with(alloc: Global, test: &Test, condition: &str) -> io::Result<Vec<u8>> {
+fn text_with(alloc: Global, test: &Test, condition: &str) -> io::Result<Vec<u8>>
+    ensures { IfOk result (λ text. IsTextWith test.now condition.now text.items) }
+{
     let mut text = text_before_condition(alloc, test)?;
     text.write_all(condition.as_bytes())?;
     text.write_all(b"\n")?;

@@ -6,6 +6,7 @@ ghost use Rattle.lit_paths.specs.Choice.{choices_of};
 use crate::scene::{EventName, Scene};
 use crate::statements::Statements;
 use lit_paths::{Combination, Event, Plan};
+use lit_rel::Part;
 use lit_syntax::{REGISTERS, Test};
 use lit_why::Refusal;
 use std::alloc::{AllocError, Global};
@@ -116,41 +117,38 @@ fn choice_on(
     Ok(Some(choice))
 }
 
-/// The final value of an agent's register on the paths of a choice.
-fn final_value(scene: &Scene<'_>, agent: usize, register: u8) -> u32 {
-    let combination = scene.part.combination();
+/// The final value of an agent's register on the paths of a part that has all sources.
+pub(crate) fn final_value(part: &Part<'_>, agent: usize, register: u8) -> u32 {
+    let combination = part.combination();
     if agent >= combination.test().agents() || usize::from(register) >= REGISTERS {
         return 0;
     }
     match combination.path(agent).last(register) {
         None => 0,
-        Some(place) => scene
-            .part
-            .value(combination.first_event(agent).saturating_add(place)),
+        Some(place) => part.value(combination.first_event(agent).saturating_add(place)),
     }
 }
 
 /// Whether a register has the final value that a word gives it.
-fn has_value(scene: &Scene<'_>, agent: &str, register: &str, value: &str) -> bool {
-    let test = scene.part.combination().test();
+fn has_value(part: &Part<'_>, agent: &str, register: &str, value: &str) -> bool {
+    let test = part.combination().test();
     let (Ok(register), Ok(value)) = (register.parse::<u8>(), value.parse::<u32>()) else {
         return false;
     };
     for place in 0..test.agents() {
         if test.agent_name(place) == agent {
-            return usize::from(register) < REGISTERS
-                && final_value(scene, place, register) == value;
+            return usize::from(register) < REGISTERS && final_value(part, place, register) == value;
         }
     }
     false
 }
 
 /// Whether registers have the final values that words give them.
-fn has_values(scene: &Scene<'_>, words: &str) -> bool {
+fn has_values(part: &Part<'_>, words: &str) -> bool {
     for word in words.split_whitespace() {
         let (name, given) = sides(word);
         if let Some((agent, register)) = register_of(name) {
-            if !has_value(scene, agent, register, given) {
+            if !has_value(part, agent, register, given) {
                 return false;
             }
         }
@@ -177,7 +175,7 @@ pub(crate) fn select(
             continue;
         }
         let scene = Scene::new(&*plan, statements, choice);
-        if !has_values(&scene, words) {
+        if !has_values(&scene.part, words) {
             continue;
         }
         match scene.refusal {

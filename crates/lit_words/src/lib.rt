@@ -2,15 +2,18 @@
 //!
 //! `line` reads them into a `Line`: the `Options` of a run, a schedule, and the file of the text; or it gives the error that
 //! `clap` prints in place of a run. It knows nothing of the search, whose limits it takes from `lit_desk` and `lit_paths`.
-//! The definitions stand in specs/`Words`: they say by the command's own definition what the words ask for, and what they
-//! are refused for. `VERSION` stands here too, since `--version` prints it.
+//! `explain_words` and `no_words` print what is answered to words that ask for no run, by each program. The definitions stand in
+//! specs/`Words`: they say by the command's own definition what the words ask for, and what they are refused for; and in
+//! specs/`Answered`. `VERSION` stands here too, since `--version` prints it.
 #![tactic(auto)]
 
+mod answering;
 mod asked_line;
 mod options;
 mod version;
 mod words;
 
+pub use answering::{explain_words, no_words, words_of};
 pub use asked_line::Line;
 pub use options::Options;
 pub use version::VERSION;

@@ -1,8 +1,6 @@
 -- What reading the input does, step by step.
-use Rattle.std.specs.Prelude.{◌≡◌, ℕ, ◌<◌, ◌++◌, Option, List, length}
+use Rattle.std.specs.Prelude.{◌≡◌, ℕ, ◌++◌, Option, List, length}
 use Rattle.std.specs.Io.KnownBytes.{Consumes, IsAtEnd}
-use Rattle.jslit.specs.declared.fault.RunFault.{RunFault}
-use Rattle.jslit.specs.declared.fault.RunFault.TheVariants.{InputFailed, OutOfMemory}
 
 -- so many known bytes went behind those read before, and none only at the end
 pub record HasRead (old new : Option (List ℕ)) (before after : List ℕ) (taken : ℕ) : Type 0 where
@@ -11,9 +9,3 @@ pub record HasRead (old new : Option (List ℕ)) (before after : List ℕ) (take
   pub appended : after ≡ before ++ bytes
   pub count : length bytes ≡ taken
   pub end : taken ≡ 0 → IsAtEnd new
-
--- the input's count of failures rose, or memory ran out and the count stayed
-abbrev pub IsReadFailure : (before after : ℕ) → RunFault → Type 0
-IsReadFailure before after InputFailed = before < after
-IsReadFailure before after OutOfMemory = after ≡ before
-IsReadFailure before after _ = ⊥

@@ -1,7 +1,5 @@
 -- The effect of printing the line of a fault.
-use Rattle.std.specs.Prelude.{◌≡◌, ◌≢◌, ◌⊎◌, ◌<◌, Option, List, ℕ}
-use Rattle.clap.specs.declared.error.kind.ErrorKind.{ErrorKind}
-use Rattle.clap.specs.declared.error.kind.ErrorKind.TheVariants as kinds
+use Rattle.std.specs.Prelude.{◌≡◌, ◌≢◌, ◌<◌, Option, List, ℕ}
 use Rattle.lit_print.specs.declared.counted.Counted.{Counted}
 use Rattle.jslit.specs.declared.fault.RunFault.{RunFault}
 use Rattle.jslit.specs.Answer.{status_of}
@@ -13,9 +11,3 @@ pub record IsSaid {W : Type 0} (contents : W → Option (List ℕ)) (status : �
   pub status_is : status ≡ status_of fault
   pub refused : status ≡ 1 → HasSaid fault (contents (device_of old)) (contents (device_of new)) (failures_of old < failures_of new)
   pub unchanged : status ≢ 1 → new ≡ old
-
--- the status that an error of the words has, by its kind
-abbrev pub IsExplained : ErrorKind → ℕ → Type 0
-IsExplained kind status = ((kind ≡ kinds.OutOfMemory) × (status ≡ 3)) ⊎ ((kind ≡ kinds.DisplayHelp) × (status ≡ 0))
-    ⊎ ((kind ≡ kinds.DisplayVersion) × (status ≡ 0))
-    ⊎ ((kind ≢ kinds.OutOfMemory) × (kind ≢ kinds.DisplayHelp) × (kind ≢ kinds.DisplayVersion) × (status ≡ 2))

@@ -7,7 +7,7 @@ ghost use Rattle.lit_print.specs.Writing.{AppendsBeginning};
 ghost use Rattle.jslit.specs.RefusalText.{read_fault_line, plan_fault_line, refusal_line};
 
 use crate::fault::RunFault;
-use crate::report::finish;
+use crate::report::{finish, write_bytes};
 use lit_paths::PlanFault;
 use lit_print::{Buffer, Counted};
 use lit_read::ReadFault;
@@ -22,9 +22,7 @@ pub(crate) fn write_unknown_agent<W: Write>(output: &mut Counted<W>) -> Result<(
         (AppendsBeginning (W.contents (device_of output.old)) (W.contents (device_of output.new)) (refusal_line RunFault.UnknownAgent)) }
     ensures failed { OnErr result (failures_of output.new ≡ one_more (failures_of output.old)) }
 {
-    let mut buffer = Buffer::new();
-    buffer.put(output, b"refused 20 unknown_agent\n");
-    finish(buffer, output)
+    write_bytes(output, b"refused 20 unknown_agent\n")
 }
 
 /// Writes the line on a text that spells no test. Takes no memory.

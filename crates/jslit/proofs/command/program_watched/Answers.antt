@@ -4,8 +4,8 @@ use Rattle.jslit.proofs.command.program_watched.Goals as goal
 
 pub returns-in-Err-clause-answered : goal.returns-in-Err-clause-answered
 returns-in-Err-clause-answered g c =
-    of_error g.W.Write.contents g.R.Read.remaining (map g.S.AsStr.text c.args.words.now) c.explain.result c.args.input.now c.args.input.now c.args.output.now c.explain.new.output
-    c.in-Err.error c.in-Err.ensures.refused c.explain.ensures.status refl
+    of_error g.W.Write.contents g.R.Read.remaining (map g.S.AsStr.text c.args.words.now) c.explain_words.result c.args.input.now c.args.input.now c.args.output.now c.explain_words.new.output
+    c.in-Err.error c.in-Err.ensures.refused c.explain_words.ensures.status refl
 
 pub returns-in-Ok-open-clause-answered : goal.returns-in-Ok-open-clause-answered
 returns-in-Ok-open-clause-answered g c =

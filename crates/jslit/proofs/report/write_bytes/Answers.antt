@@ -1,5 +1,5 @@
 use Rattle.lit_print.proofs.Putting.{finished, stopped}
-use Rattle.jslit.proofs.report.refusal_writer.write_unknown_agent.Goals as goal
+use Rattle.jslit.proofs.report.write_bytes.Goals as goal
 
 pub returns-clause-written : goal.returns-clause-written
 returns-clause-written g c = finished c.finish.result _ _ _ _ _ c.put.ensures c.new-buffer.ensures.empty c.new-buffer.ensures.going c.finish.ensures.written
