@@ -6,10 +6,11 @@ use Rattle.lit_read.specs.Spelling.{Spells}
 use Rattle.lit_print.specs.EntryText.{line}
 use Rattle.lit_reason.specs.declared.question.Asked.{Asked}
 
--- the beginning of a text up to its last line, in which a byte 10 stands at the end alone
+-- the beginning of a text up to its last line, which has some byte where the text has, and in which a byte 10 stands at the end alone
 pub record IsBeforeLastLine (text front : List ℕ) : Type 0 where
   pub rest : List ℕ
   pub parts : text ≡ front ++ rest
+  pub some : 0 < length text → 0 < length rest
   pub one_line : (i : ℕ) → i + 1 < length rest → slice_get rest i ≢ Some 10
   pub ends : (i : ℕ) → i + 1 ≡ length front → slice_get front i ≡ Some 10
 

@@ -13,6 +13,7 @@ pub returns-else-index-ne10 : goal.returns-else-index-ne10
 returns-else-index-ne10 c = record {
   rest = c.bytes.invariant.rest;
   parts = c.bytes.invariant.parts;
+  some = c.bytes.invariant.some;
   one_line = c.bytes.invariant.one_line;
   ends = λ i last. slice_get-get_or c.bytes.text.items i c.index.result.now (omega (arith, last))
       ∙ ap Some (ap (λ (k : ℕ). get_or c.bytes.text.items k c.index.result.now) (omega (arith, last, c.len.ensures, c.bytes.text.ok))
