@@ -31,6 +31,7 @@ pub mod LeastLemmas
 pub mod EntryLemmas
 pub mod ObservationLemmas
 pub mod ObservedLemmas
+pub mod EnumerationLemmas
 pub mod IndependentLemmas
 pub mod ReadValuesLemmas
 pub mod OpenReadLemmas

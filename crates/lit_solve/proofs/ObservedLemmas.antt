@@ -154,7 +154,7 @@ module _ (known : Execution → Type 0) (box : Box) (k : ℕ) (inside : k < leng
   ]
 
 module _ (box : Box) (k : ℕ) where
-  seen_stays : (old new : List Entry) (left : EventSet) → ((outcome : List ℕ) → HasOutcome old outcome → HasOutcome new outcome)
+  pub seen_stays : (old new : List Entry) (left : EventSet) → ((outcome : List ℕ) → HasOutcome old outcome → HasOutcome new outcome)
       → IsSeen box k old left → IsSeen box k new left
   seen_stays old new left stays seen x is = grind arith
 

@@ -14,7 +14,7 @@ use crate::problem::Problem;
 use lit_rel::EventSet;
 
 /// How many events a set has.
-fn count(set: EventSet) -> u32 {
+pub(crate) fn count(set: EventSet) -> u32 {
     let mut count = 0u32;
     let mut left = set;
     while let Some((_first, others)) = left.split_first() {

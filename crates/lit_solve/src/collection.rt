@@ -1,12 +1,14 @@
-//! All outcomes of a frame, by a backtracking search that branches on observed byte reads.
+//! All outcomes of a frame, by backtracking: first by the values of observed byte reads, and where some of these are of no execution, by
+//! sources.
 
-ghost use Rattle.std.specs.Prelude.{◌≡◌, ◌<◌, IfSome, IsFalse, OnOk, length};
+ghost use Rattle.std.specs.Prelude.{◌≡◌, ◌<◌, IfOk, IfSome, IsFalse, IsTrue, OnOk, length};
 ghost use Rattle.lit_paths.specs.ByteReads.{byte_read_at, byte_reads};
 ghost use Rattle.lit_paths.specs.Execution.{Execution, execution_outcome};
 ghost use Rattle.lit_solve.specs.Box.{events_on};
-ghost use Rattle.lit_solve.specs.Completion.{IsCompletion};
+ghost use Rattle.lit_solve.specs.Completion.{HasSolution, IsCompletion};
 ghost use Rattle.lit_solve.specs.Fill.{IsLeaf};
 ghost use Rattle.lit_solve.specs.Prospect.{IsUndecidedAt};
+ghost use Rattle.lit_solve.specs.declared.goal.Goal.TheVariants.{Any};
 ghost use Rattle.lit_solve.specs.Internal.Frames.{box_of};
 ghost use Rattle.lit_solve.specs.Internal.Pruning.{HasNoCompletion};
 ghost use Rattle.lit_solve.specs.Internal.Observation.{AreFirstValues, IsObservation, IsObservedAt};
@@ -73,88 +75,91 @@ impl Problem<'_> {
         Some(self.forcing_observed(frame).unwrap_or(open))
     }
 
-    /// Records the one outcome of a frame, if the table lacks it and the frame has a completion. Where the search for one fails, it sets
-    /// `doubt`.
-    fn record<T: OutcomeTable>(
+    /// Records the one outcome of a frame, if the table lacks it and the frame has a completion. Answers whether the outcome is in the
+    /// table then. If `sure`, the frame has a completion.
+    pub(crate) fn record<T: OutcomeTable>(
         &self,
         frame: &Frame,
         outcome: &[u32],
+        sure: bool,
         table: &mut T,
-        doubt: &mut bool,
-    ) -> Result<(), AllocError>
+    ) -> Result<bool, AllocError>
         requires settled { IsSettled (box_of self.now frame.now) frame.now }
         requires same { (x : Execution) → IsCompletion (box_of self.now frame.now) x → execution_outcome self.now.0 x ≡ outcome.now }
+        requires sure { IsTrue sure → HasSolution (box_of self.now frame.now) Any }
         ensures added { AddsEntries (box_of self.now frame.now) (T.entries table.old) (T.entries table.new) }
         ensures whole { OnOk result (HasEachOutcome (box_of self.now frame.now) (T.entries table.new)) }
     {
         if table.has(outcome) {
-            return Ok(());
+            return Ok(true);
         }
-        let Some(least) = self.least(frame, Goal::Any) else {
-            *doubt = true;
-            return Ok(());
+        let Some(least) = self.least(frame, Goal::Any, sure) else {
+            return Ok(false);
         };
-        *doubt = false;
         let choice = number_of(&self.combination, least.sources.as_slice());
         table.record(outcome, choice, least.order)?;
-        Ok(())
+        Ok(true)
     }
 
-    /// Records the outcomes of a leaf that the table lacks.
+    /// Records the outcomes of a leaf that the table lacks. Answers whether it has any.
     fn leaf_outcomes<T: OutcomeTable, H: Heartbeat>(
         &self,
         alloc: Global,
         frame: &Frame,
         table: &mut T,
-        doubt: &mut bool,
         heartbeat: &H,
-    ) -> Result<(), AllocError>
+    ) -> Result<bool, AllocError>
         requires settled { IsSettled (box_of self.now frame.now) frame.now }
         requires leaf { IsLeaf (box_of self.now frame.now) }
         ensures added { AddsEntries (box_of self.now frame.now) (T.entries table.old) (T.entries table.new) }
         ensures whole { OnOk result (HasEachOutcome (box_of self.now frame.now) (T.entries table.new)) }
     {
         let Some(order) = self.leaf_order(frame) else {
-            *doubt = true;
-            return Ok(());
+            return Ok(false);
         };
-        *doubt = false;
-        self.product_outcomes(alloc, &frame.domains, &order, table, heartbeat)
+        self.product_outcomes(alloc, &frame.domains, &order, table, heartbeat)?;
+        Ok(true)
     }
 
-    /// Whether a frame may have a completion. It searches for one only where there is doubt.
-    fn may_complete(&self, frame: &Frame, doubt: bool) -> bool
+    /// Whether a search by values goes on into a frame: at once, or, if `sure`, only if the frame has a completion.
+    fn is_entered(&self, frame: &Frame, sure: bool) -> bool
         requires { IsSettled (box_of self.now frame.now) frame.now }
-        ensures { IsFalse result → HasNoCompletion (box_of self.now frame.now) }
+        ensures sure { IsTrue sure → IsTrue result → HasSolution (box_of self.now frame.now) Any }
+        ensures none { IsFalse result → HasNoCompletion (box_of self.now frame.now) }
     {
-        !doubt || self.exists(frame, Goal::Any)
+        !sure || self.exists(frame, Goal::Any)
     }
 
-    /// Records the outcomes of a frame that the table lacks. They begin with the given values. An infeasible frame sets `doubt`; as long
-    /// as it is set, the search descends only into frames with a completion.
-    pub(crate) fn outcomes<T: OutcomeTable, H: Heartbeat>(
+    /// Records the outcomes of a frame that the table lacks, by a search that branches on the values of observed byte reads. `values` are
+    /// the first of each outcome. Answers `false` where it gave up at a frame that has no completion. If `sure`, the frame has one; then
+    /// it goes on only into frames that have one, and never gives up.
+    fn outcomes_by_values<T: OutcomeTable, H: Heartbeat>(
         &self,
         alloc: Global,
         frame: &Frame,
         values: &Values,
+        sure: bool,
         table: &mut T,
-        doubt: &mut bool,
         heartbeat: &H,
-    ) -> Result<(), AllocError>
+    ) -> Result<bool, AllocError>
         requires settled { IsSettled (box_of self.now frame.now) frame.now }
         requires first { AreFirstValues (box_of self.now frame.now) values.now.items }
+        requires sure { IsTrue sure → HasSolution (box_of self.now frame.now) Any }
         ensures added { AddsEntries (box_of self.now frame.now) (T.entries table.old) (T.entries table.new) }
-        ensures whole { OnOk result (HasEachOutcome (box_of self.now frame.now) (T.entries table.new)) }
+        ensures whole { IfOk result (λ all. IsTrue all → HasEachOutcome (box_of self.now frame.now) (T.entries table.new)) }
+        ensures sure { IsTrue sure → IfOk result IsTrue }
     {
         // For the prover: an execution's outcome follows from its sources.
         laws_below();
         heartbeat.beat();
         let mut values = values.clone()?;
         let Some(place) = self.next_observed(frame, &mut values) else {
-            return self.record(frame, values.as_slice(), table, doubt);
+            let there = self.record(frame, values.as_slice(), sure, table)?;
+            return Ok(sure || there);
         };
         let Some(_branch) = self.branch(frame) else {
-            return self.leaf_outcomes(alloc, frame, table, doubt, heartbeat);
+            let there = self.leaf_outcomes(alloc, frame, table, heartbeat)?;
+            return Ok(sure || there);
         };
         // For the prover: a combination has few events.
         let _events = self.events();
@@ -163,11 +168,40 @@ impl Problem<'_> {
         while let Some((source, _others)) = left.split_first() {
             let group = self.storing_same(all, place, source);
             let mut next = *frame;
-            // To refute an outcome takes long, and the next ones are mostly infeasible too: one search for any completion costs less.
-            if self.cut(&mut next, place, group) && self.may_complete(&next, *doubt) {
-                self.outcomes(alloc, &next, &values, table, doubt, heartbeat)?;
+            if self.cut(&mut next, place, group) && self.is_entered(&next, sure) {
+                let done =
+                    self.outcomes_by_values(alloc, &next, &values, sure, table, heartbeat)?;
+                if !done {
+                    return Ok(false);
+                }
             }
             left = left.difference(group);
+        }
+        Ok(true)
+    }
+
+    /// Records the outcomes of a frame that the table lacks (decision 202).
+    pub(crate) fn outcomes<T: OutcomeTable, H: Heartbeat>(
+        &self,
+        alloc: Global,
+        frame: &Frame,
+        table: &mut T,
+        heartbeat: &H,
+    ) -> Result<(), AllocError>
+        requires settled { IsSettled (box_of self.now frame.now) frame.now }
+        ensures added { AddsEntries (box_of self.now frame.now) (T.entries table.old) (T.entries table.new) }
+        ensures whole { OnOk result (HasEachOutcome (box_of self.now frame.now) (T.entries table.new)) }
+    {
+        let none = Values::new();
+        if self.outcomes_by_values(alloc, frame, &none, false, table, heartbeat)? {
+            return Ok(());
+        }
+        // To refute values takes long, and where some are of no execution, most are.
+        if self.has_few_ways(frame) {
+            return self.outcomes_by_sources(frame, frame, table, heartbeat);
+        }
+        if self.exists(frame, Goal::Any) {
+            self.outcomes_by_values(alloc, frame, &none, true, table, heartbeat)?;
         }
         Ok(())
     }

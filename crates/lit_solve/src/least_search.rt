@@ -42,9 +42,11 @@ impl Problem<'_> {
         sources
     }
 
-    /// Descends to the frame of the least solution, in which each domain has one source. Answers whether there is a solution.
-    fn find_least(&self, frame: &mut Frame, goal: Goal) -> bool
-        requires { IsSettled (box_of self.now frame.old) frame.old }
+    /// Descends to the frame of the least solution, in which each domain has one source. Answers whether there is a solution. If `sure`,
+    /// there is one.
+    fn find_least(&self, frame: &mut Frame, goal: Goal, sure: bool) -> bool
+        requires settled { IsSettled (box_of self.now frame.old) frame.old }
+        requires sure { IsTrue sure → HasSolution (box_of self.now frame.old) goal }
         ensures settled { IsTrue result → IsSettled (box_of self.now frame.new) frame.new }
         ensures alone { IsTrue result → AreAloneBelow (box_of self.now frame.new) (length (byte_reads (events_on self.now))) }
         ensures lowest { IsTrue result → IsLowest (box_of self.now frame.old) goal (box_of self.now frame.new) }
@@ -58,12 +60,13 @@ impl Problem<'_> {
             return true;
         }
         // A source that is not refuted may still be in no solution, so that a failed descent proves nothing.
-        self.exists(&*frame, goal) && self.descend(frame, goal, true)
+        (sure || self.exists(&*frame, goal)) && self.descend(frame, goal, true)
     }
 
-    /// The least solution of a frame, or `None` exactly if there is none.
-    pub(crate) fn least(&self, frame: &Frame, goal: Goal) -> Option<Least>
-        requires { IsSettled (box_of self.now frame.now) frame.now }
+    /// The least solution of a frame, or `None` exactly if there is none. If `sure`, there is one.
+    pub(crate) fn least(&self, frame: &Frame, goal: Goal, sure: bool) -> Option<Least>
+        requires settled { IsSettled (box_of self.now frame.now) frame.now }
+        requires sure { IsTrue sure → HasSolution (box_of self.now frame.now) goal }
         ensures { MatchOption result (¬ HasSolution (box_of self.now frame.now) goal)
             (λ least. IsLeastSolution (box_of self.now frame.now) goal least.sources.items least.order.items) }
     {
@@ -77,7 +80,7 @@ impl Problem<'_> {
             });
         }
         let mut down = *frame;
-        if !self.find_least(&mut down, goal) {
+        if !self.find_least(&mut down, goal, sure) {
             return None;
         }
         match self.least_order(&down) {

@@ -12,6 +12,7 @@ mod descending;
 mod disjunction;
 mod domains;
 mod effect;
+mod enumeration;
 mod filling;
 mod forcing;
 mod frame;

@@ -9,7 +9,6 @@ use crate::domains::Domains;
 use crate::goal::Goal;
 use crate::heartbeat::Heartbeat;
 use crate::least_search::Least;
-use crate::observation::Values;
 use crate::problem::Problem;
 use crate::table::OutcomeTable;
 use std::alloc::{AllocError, Global};
@@ -32,7 +31,7 @@ pub fn least(problem: &Problem<'_>, domains: &Domains, goal: Goal) -> Option<Lea
         (λ least. IsLeastSolution (box_with problem.now domains.now) goal least.sources.items least.order.items) }
 {
     match problem.settle(domains) {
-        Some(frame) => problem.least(&frame, goal),
+        Some(frame) => problem.least(&frame, goal, false),
         None => None,
     }
 }
@@ -52,14 +51,7 @@ pub fn outcomes<T: OutcomeTable, H: Heartbeat>(
     ensures whole { OnOk result (HasEachOutcome (box_with problem.now domains.now) (T.entries table.new)) }
 {
     match problem.settle(domains) {
-        Some(frame) => problem.outcomes(
-            alloc,
-            &frame,
-            &Values::new(),
-            table,
-            &mut false,
-            heartbeat,
-        ),
+        Some(frame) => problem.outcomes(alloc, &frame, table, heartbeat),
         None => Ok(()),
     }
 }

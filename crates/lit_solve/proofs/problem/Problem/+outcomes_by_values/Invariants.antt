@@ -1,9 +1,9 @@
 use Rattle.lit_solve.proofs.Words.{AddsEntries, box_of, HasEvent, HasSource, size_of, ℕ}
 use Rattle.lit_solve.proofs.ObservedLemmas.{IsSeen}
-use Rattle.lit_solve.proofs.problem.Problem.+outcomes.Given as goal
+use Rattle.lit_solve.proofs.problem.Problem.+outcomes_by_values.Given as goal
 
-abbrev pub decreases-outcomes : goal.decreases-outcomes
-decreases-outcomes g l = size_of l.frame.now.domains
+abbrev pub decreases-outcomes_by_values : goal.decreases-outcomes_by_values
+decreases-outcomes_by_values g l = size_of l.frame.now.domains
 
 abbrev pub invariant-loop-source : goal.invariant-loop-source
 invariant-loop-source g l = record {

@@ -4,8 +4,8 @@ use Rattle.lit_solve.proofs.EntryLemmas.{adds_more, adds_none}
 use Rattle.lit_solve.proofs.PruningLemmas.{source_known}
 use Rattle.lit_solve.proofs.SearchingLemmas.{left_less}
 use Rattle.lit_solve.proofs.ObservedLemmas.{IsSeen, same_stores_among, all_seen, first_within, part_adds, seen_part, seen_past, some_differ}
-use Rattle.lit_solve.proofs.problem.Problem.+outcomes.Goals as goal
-use Rattle.lit_solve.proofs.problem.Problem.+outcomes.Goals.{then-cut+then-may_complete+in_ok-outcomes, else-cut, else-cut-via-then-cut+else-may_complete, else-cut-via-else-cut}
+use Rattle.lit_solve.proofs.problem.Problem.+outcomes_by_values.Goals as goal
+use Rattle.lit_solve.proofs.problem.Problem.+outcomes_by_values.Goals.{then-cut+then-is_entered+in_ok-done+else-not-done, else-cut, else-cut-via-then-cut+else-is_entered, else-cut-via-else-cut}
 
 pub loop-source-init : goal.loop-source-init
 loop-source-init g t c = record {
@@ -24,8 +24,8 @@ storing_same-group-requires g t c =
       known = λ w there. known w ((c.sources_left-all.ensures w).0 there);
     }
 
-pub outcomes-requires : goal.outcomes-requires
-outcomes-requires g t c κs within =
+pub outcomes_by_values-requires : goal.outcomes_by_values-requires
+outcomes_by_values-requires g t c κs within =
     let box = box_of c.args.self.now c.args.frame.now in
     let place = c.in-Some.place in
     let matching = same_stores_among box place c.in-Some-split_first.source c.sources_left-all.result c.storing_same-group.result c.sources_left-all.ensures
@@ -40,26 +40,43 @@ outcomes-requires g t c κs within =
           within.1,
           (
             c.cut.ensures.settled c.if-cut.true,
-            first_within box c.cut.new.frame.domains c.next_observed.new.values.items (c.cut.ensures.cut c.if-cut.true).within
-                c.next_observed.ensures.first,
+            (
+              first_within box c.cut.new.frame.domains c.next_observed.new.values.items (c.cut.ensures.cut c.if-cut.true).within
+                  c.next_observed.ensures.first,
+              λ known. c.is_entered.ensures.sure known c.if-is_entered.true,
+            ),
           ),
         ),
       ),
     )
 
-pub returns-in_err-outcomes-clause-added : goal.returns-in_err-outcomes-clause-added
-returns-in_err-outcomes-clause-added g t c =
+pub returns-in_err-done-clause-added : goal.returns-in_err-done-clause-added
+returns-in_err-done-clause-added g t c =
     let box = box_of c.args.self.now c.args.frame.now in
     let place = c.in-Some.place in
     let matching = same_stores_among box place c.in-Some-split_first.source c.sources_left-all.result c.storing_same-group.result c.sources_left-all.ensures
     c.storing_same-group.ensures in
     let old = g.T.OutcomeTable.entries c.args.table.now in
     let mid = g.T.OutcomeTable.entries c.loop-source.table in
-    let new = g.T.OutcomeTable.entries c.outcomes.new.table in
+    let new = g.T.OutcomeTable.entries c.outcomes_by_values.new.table in
     adds_more box old mid new c.loop-source.invariant.added
     (part_adds c.laws_below.ensures box c.requires.settled.exact.contained.is_box c.events-events.ensures.sound place
     c.in-Some.ensures.observed.0 c.in-Some.ensures.observed.2 c.in-Some-split_first.source c.storing_same-group.result matching
-    c.cut.new.frame.domains (c.cut.ensures.cut c.if-cut.true) mid new c.outcomes.ensures.added)
+    c.cut.new.frame.domains (c.cut.ensures.cut c.if-cut.true) mid new c.outcomes_by_values.ensures.added)
+
+pub returns-then-not-done-clause-added : goal.returns-then-not-done-clause-added
+returns-then-not-done-clause-added g t c =
+    let box = box_of c.args.self.now c.args.frame.now in
+    let place = c.in-Some.place in
+    let matching = same_stores_among box place c.in-Some-split_first.source c.sources_left-all.result c.storing_same-group.result c.sources_left-all.ensures
+    c.storing_same-group.ensures in
+    let old = g.T.OutcomeTable.entries c.args.table.now in
+    let mid = g.T.OutcomeTable.entries c.loop-source.table in
+    let new = g.T.OutcomeTable.entries c.outcomes_by_values.new.table in
+    adds_more box old mid new c.loop-source.invariant.added
+    (part_adds c.laws_below.ensures box c.requires.settled.exact.contained.is_box c.events-events.ensures.sound place
+    c.in-Some.ensures.observed.0 c.in-Some.ensures.observed.2 c.in-Some-split_first.source c.storing_same-group.result matching
+    c.cut.new.frame.domains (c.cut.ensures.cut c.if-cut.true) mid new c.outcomes_by_values.ensures.added)
 
 pub loop-source-smaller : goal.loop-source-smaller
 loop-source-smaller g t c =
@@ -82,17 +99,17 @@ loop-source-preserved g t c =
     seen_past box place old mid c.loop-source.left group rest c.difference-left.ensures c.in-Some.ensures.observed.0
     c.loop-source.invariant.added c.loop-source.invariant.seen none in
     let goes : AddsEntries box old (entries c.if-cut.table) × IsSeen box place (entries c.if-cut.table) rest = elim c.if-cut.branch [
-      | then-cut+then-may_complete+in_ok-outcomes w ↦
+      | then-cut+then-is_entered+in_ok-done+else-not-done w ↦
           subst (λ (es : List Entry). AddsEntries box old es × IsSeen box place es rest) (sym (ap entries w.table-is))
           (seen_part c.laws_below.ensures box c.requires.settled.exact.contained.is_box c.events-events.ensures.sound place
           c.in-Some.ensures.observed.0 c.in-Some.ensures.observed.2 c.in-Some-split_first.source group matching c.cut.new.frame.domains
-          (c.cut.ensures.cut w.if-cut.true) old mid (entries w.outcomes.new.table) c.loop-source.left rest c.difference-left.ensures
-          c.loop-source.invariant.added c.loop-source.invariant.seen w.outcomes.ensures.added w.in_ok-outcomes.ensures.whole)
+          (c.cut.ensures.cut w.if-cut.true) old mid (entries w.outcomes_by_values.new.table) c.loop-source.left rest c.difference-left.ensures
+          c.loop-source.invariant.added c.loop-source.invariant.seen w.outcomes_by_values.ensures.added (w.in_ok-done.ensures.whole w.if-not-done.false))
       | else-cut w ↦
           subst (λ (es : List Entry). AddsEntries box old es × IsSeen box place es rest) (sym (ap entries w.table-is))
           (past (elim w.else-cut.branch [
-            | else-cut-via-then-cut+else-may_complete v ↦
-                (λ x is takes. v.may_complete.ensures v.if-may_complete.false x ((c.cut.ensures.cut v.if-cut.true).retained x is takes))
+            | else-cut-via-then-cut+else-is_entered v ↦
+                (λ x is takes. v.is_entered.ensures.none v.if-is_entered.false x ((c.cut.ensures.cut v.if-cut.true).retained x is takes))
             | else-cut-via-else-cut v ↦ c.cut.ensures.none v.if-cut.false
           ]))
     ] in
@@ -103,6 +120,6 @@ loop-source-preserved g t c =
     }
 
 pub returns-clause-whole : goal.returns-clause-whole
-returns-clause-whole g t c =
+returns-clause-whole g t c _ =
     all_seen (box_of c.args.self.now c.args.frame.now) c.in-Some.place (g.T.OutcomeTable.entries c.loop-source.table) c.loop-source.left
     c.in_default-split_first.ensures c.in-Some.ensures.observed.0 c.loop-source.invariant.seen

@@ -1,0 +1,87 @@
+use Rattle.lit_solve.proofs.Words.{◌<◌, AddsEntries, ap, box_of, Entry, execution_outcome, HasOutcome, List, size_of, subst, sym, ℕ}
+use Rattle.lit_solve.proofs.EntryLemmas.{adds_more}
+use Rattle.lit_solve.proofs.EnumerationLemmas.{seen_next, undecided_of, within_on}
+use Rattle.lit_solve.proofs.ObservedLemmas.{all_seen, IsSeen, seen_more}
+use Rattle.lit_solve.proofs.PruningLemmas.{source_known}
+use Rattle.lit_solve.proofs.SearchingLemmas.{left_less, not_all}
+use Rattle.lit_solve.proofs.problem.Problem.+outcomes_by_sources.Goals as goal
+use Rattle.lit_solve.proofs.problem.Problem.+outcomes_by_sources.Goals.{then-cut+in_ok-outcomes_by_sources, else-cut}
+
+pub next_branch-requires-clause-undecided : goal.next_branch-requires-clause-undecided
+next_branch-requires-clause-undecided g t c =
+    undecided_of (box_of c.args.self.now c.args.frame.now) c.observe-open.new.values.items c.observe-open.result c.observe-open.ensures.observed
+
+pub part-part-requires-clause-known : goal.part-part-requires-clause-known
+part-part-requires-clause-known g t c w there =
+    source_known (box_of c.args.self.now c.args.frame.now) c.requires.settled.exact.contained.is_box c.in-Some.branch.place w
+    c.in-Some.ensures.branch.known (c.loop-source.invariant.within w there)
+
+pub outcomes_by_sources-requires : goal.outcomes_by_sources-requires
+outcomes_by_sources-requires g t c κs within =
+    let box = box_of c.args.self.now c.args.frame.now in (
+      subst (λ (n : ℕ). size_of c.cut.new.frame.domains < n) c.decreases
+          (c.cut.ensures.less c.if-cut.true
+          (not_all box c.in-Some.branch c.in-Some.ensures.branch c.in-Some-split_first.source
+          (c.loop-source.invariant.within c.in-Some-split_first.source c.in-Some-split_first.ensures.there) c.part-part.result
+          c.part-part.ensures.apart)),
+      (
+        within.0,
+        (
+          within.1,
+          (
+            c.requires.root,
+            (
+              c.cut.ensures.settled c.if-cut.true,
+              within_on (box_of c.args.self.now c.cut.new.frame) box (box_of c.args.self.now c.args.root.now)
+                  (c.cut.ensures.cut c.if-cut.true).within c.requires.within,
+            ),
+          ),
+        ),
+      ),
+    )
+
+pub loop-source-smaller : goal.loop-source-smaller
+loop-source-smaller g t c =
+    left_less c.loop-source.left c.in-Some-split_first.source c.in-Some-split_first._others c.part-part.result c.difference-left.result
+    c.in-Some-split_first.ensures c.difference-left.ensures c.part-part.ensures.there
+
+pub loop-source-preserved : goal.loop-source-preserved
+loop-source-preserved g t c =
+    let box = box_of c.args.self.now c.args.frame.now in
+    let root = box_of c.args.self.now c.args.root.now in
+    let place = c.in-Some.branch.place in
+    let inside = c.in-Some.ensures.branch.known in
+    let rest = c.difference-left.result in
+    let entries = g.T.OutcomeTable.entries in
+    let old = entries c.args.table.now in
+    let mid = entries c.loop-source.table in
+    let was = c.loop-source.invariant in
+    let goes : AddsEntries root old (entries c.if-cut.table) × IsSeen box place (entries c.if-cut.table) rest = elim c.if-cut.branch [
+      | then-cut+in_ok-outcomes_by_sources w ↦
+          subst (λ (es : List Entry). AddsEntries root old es × IsSeen box place es rest) (sym (ap entries w.table-is))
+          (seen_next root box place inside old mid (entries w.outcomes_by_sources.new.table) c.loop-source.left c.part-part.result rest
+          c.difference-left.ensures c.cut.new.frame.domains (c.cut.ensures.cut w.if-cut.true) was.added was.seen
+          w.outcomes_by_sources.ensures.added w.in_ok-outcomes_by_sources.ensures.whole)
+      | else-cut w ↦
+          subst (λ (es : List Entry). AddsEntries root old es × IsSeen box place es rest) (sym (ap entries w.table-is)) (
+            was.added,
+            seen_more (λ x. HasOutcome mid (execution_outcome c.args.self.now.0 x)) box place inside c.loop-source.left c.part-part.result
+                rest c.difference-left.ensures (λ x is takes. absurd (c.cut.ensures.none w.if-cut.false x is takes)) was.seen,
+          )
+    ] in
+    record {
+      within = λ w there. was.within w ((c.difference-left.ensures w).0 there).0;
+      added = goes.0;
+      seen = goes.1;
+    }
+
+pub returns-in_err-outcomes_by_sources-clause-added : goal.returns-in_err-outcomes_by_sources-clause-added
+returns-in_err-outcomes_by_sources-clause-added g t c =
+    let entries = g.T.OutcomeTable.entries in
+    adds_more (box_of c.args.self.now c.args.root.now) (entries c.args.table.now) (entries c.loop-source.table)
+    (entries c.outcomes_by_sources.new.table) c.loop-source.invariant.added c.outcomes_by_sources.ensures.added
+
+pub returns-clause-whole : goal.returns-clause-whole
+returns-clause-whole g t c =
+    all_seen (box_of c.args.self.now c.args.frame.now) c.in-Some.branch.place (g.T.OutcomeTable.entries c.loop-source.table)
+    c.loop-source.left c.in_default-split_first.ensures c.in-Some.ensures.branch.known c.loop-source.invariant.seen
