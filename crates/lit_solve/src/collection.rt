@@ -169,8 +169,7 @@ impl Problem<'_> {
             let group = self.storing_same(all, place, source);
             let mut next = *frame;
             if self.cut(&mut next, place, group) && self.is_entered(&next, sure) {
-                let done =
-                    self.outcomes_by_values(alloc, &next, &values, sure, table, heartbeat)?;
+                let done = self.outcomes_by_values(alloc, &next, &values, sure, table, heartbeat)?;
                 if !done {
                     return Ok(false);
                 }
@@ -180,7 +179,7 @@ impl Problem<'_> {
         Ok(true)
     }
 
-    /// Records the outcomes of a frame that the table lacks (decision 202).
+    /// Records the outcomes of a frame that the table lacks (decision 189).
     pub(crate) fn outcomes<T: OutcomeTable, H: Heartbeat>(
         &self,
         alloc: Global,

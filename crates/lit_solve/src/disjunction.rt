@@ -103,14 +103,7 @@ impl Problem<'_> {
     {
         // For the prover: the place is one of the array of domains.
         let _reads = self.reads();
-        let mut left = frame.domains[place];
-        while let Some((source, others)) = left.split_first() {
-            if self.is_coherent(before, place, source) {
-                return true;
-            }
-            left = others;
-        }
-        false
+        !frame.domains[place].is_within(self.incoherent(before, place))
     }
 
     /// Whether what all sources in the domains of a frame order shows that it is infeasible: it has a cycle, or no source of some byte

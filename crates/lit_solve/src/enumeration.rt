@@ -25,7 +25,7 @@ use crate::table::OutcomeTable;
 use lit_valid::laws::laws_below;
 use std::alloc::AllocError;
 
-/// How many ways to choose sources take about as long as to refute the values of one outcome (decision 202).
+/// How many ways to choose sources take about as long as to refute the values of one outcome (decision 189).
 const WAYS_OF_AN_OUTCOME: u64 = 64;
 
 impl Problem<'_> {

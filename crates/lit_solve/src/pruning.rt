@@ -24,21 +24,25 @@ use lit_paths::event_at;
 use lit_rel::{EventSet, TwoWayRows, can_read_whole};
 
 impl Problem<'_> {
-    /// Whether the byte read at a place is coherent (29.7.2) with a source, by an acyclic relation that orders the events.
-    pub(crate) fn is_coherent(&self, before: &TwoWayRows, place: usize, source: usize) -> bool
+    /// The events with which the byte read at a place would not be coherent (29.7.2), by an acyclic relation that orders the events: those
+    /// after the read, and those before a write of the byte that is before the read.
+    pub(crate) fn incoherent(&self, before: &TwoWayRows, place: usize) -> EventSet
         requires place { place < length (byte_reads (events_on self.now)) }
         requires len { rows_len before.now.rows ≡ length (events_on self.now) }
-        requires source { source < length (events_on self.now) }
         requires acyclic { (e : ℕ) → ¬ Holds before.now.rows e e }
-        ensures { IsTrue result ↔ IsCoherentRead (events_on self.now) (Holds before.now.rows) (byte_read_at (events_on self.now) place).0
-            (byte_read_at (events_on self.now) place).1 source }
+        ensures { (w : ℕ) → HasEvent result w ↔ ¬ IsCoherentRead (events_on self.now) (Holds before.now.rows)
+            (byte_read_at (events_on self.now) place).0 (byte_read_at (events_on self.now) place).1 w }
     {
+        // For the prover: the place is one of the array of candidates.
+        let _reads = self.reads();
         let read = usize::from(self.byte_read(place).read);
-        let between = before
-            .rows
-            .successors(source)
-            .intersection(before.converse.successors(read));
-        !before.rows.holds(read, source) && self.candidates[place].intersection(between).is_empty()
+        let mut incoherent = before.rows.successors(read);
+        let mut left = self.candidates[place].intersection(before.converse.successors(read));
+        while let Some((write, others)) = left.split_first() {
+            incoherent = incoherent.union(before.converse.successors(write));
+            left = others;
+        }
+        incoherent
     }
 
     /// Whether a source that could synchronize with a read is forced after it.
@@ -124,23 +128,19 @@ impl Problem<'_> {
         !others.is_empty() && can_read_whole(event_at(events, read), event_at(events, source))
     }
 
-    /// Whether the frame shows that no completion has this source for the byte read at a place. `whole` are given sources of the read
-    /// from which it reads whole. The frame's happens-before is acyclic.
+    /// Whether the frame shows that no completion has this source, with which it is coherent, for the byte read at a place. `whole` are
+    /// given sources of the read from which it reads whole.
     fn is_prunable(&self, frame: &Frame, place: usize, source: usize, whole: EventSet) -> bool
         requires place { place < length (byte_reads (events_on self.now)) }
         requires source { source < length (events_on self.now) }
         requires contained { IsContained (box_of self.now frame.now) frame.now }
-        requires acyclic { (e : ℕ) → ¬ Holds frame.now.happens_before.rows e e }
         requires whole { (u : ℕ) → HasEvent whole u → ReadsWholeBy (events_on self.now) (GivenIn (box_of self.now frame.now))
             (byte_read_at (events_on self.now) place).0 u }
-        ensures prunable { IsTrue result → IsPrunable (box_of self.now frame.now) (byte_read_at (events_on self.now) place).0
+        ensures { IsTrue result → IsPrunable (box_of self.now frame.now) (byte_read_at (events_on self.now) place).0
             (byte_read_at (events_on self.now) place).1 source }
-        ensures coherent { IsFalse result → IsCoherentRead (events_on self.now) (Holds frame.now.happens_before.rows)
-            (byte_read_at (events_on self.now) place).0 (byte_read_at (events_on self.now) place).1 source }
     {
         let read = usize::from(self.byte_read(place).read);
-        !self.is_coherent(&frame.happens_before, place, source)
-            || self.is_forced_later(frame, read, source)
+        self.is_forced_later(frame, read, source)
             || self.is_forced_between(frame, read, source)
             || self.would_tear(read, source, whole)
     }
@@ -159,16 +159,18 @@ impl Problem<'_> {
     {
         // For the prover: a set has room for each event of a combination.
         let _events = self.events();
+        let coherent = frame.domains[place].difference(self.incoherent(
+            &frame.happens_before,
+            place,
+        ));
         // A given source is only asked for coherence. It can't be forced later than its read, nor an event that may not stand between
         // the two be forced there, since what is forced has no cycle; and whether the read is torn, its filling tells.
-        if let Some(given) = self.given(frame, place) {
-            if self.is_coherent(&frame.happens_before, place, given) {
-                return frame.domains[place];
-            }
+        if self.given(frame, place).is_some() {
+            return coherent;
         }
         let whole = self.whole_sources(frame, place);
         let mut left = EventSet::new();
-        let mut rest = frame.domains[place];
+        let mut rest = coherent;
         while let Some((source, others)) = rest.split_first() {
             if !self.is_prunable(frame, place, source, whole) {
                 left = left.with(source);

@@ -1,11 +1,10 @@
-use Rattle.lit_solve.proofs.Words.{ap, box_of, byte_read_at, CanReadWhole, event_at, events_on, false≢true, IsPrunable, subst, sym, ℕ, ◌∙◌}
-use Rattle.lit_solve.proofs.Words.{◌≡◌}
-use Rattle.lit_solve.proofs.PruningLemmas.{between_out, incoherent_out, later_out, tear_out}
+use Rattle.lit_solve.proofs.Words.{ap, box_of, byte_read_at, CanReadWhole, event_at, events_on, IsPrunable, subst, sym, ℕ, ◌∙◌, ◌≡◌}
+use Rattle.lit_solve.proofs.PruningLemmas.{between_out, later_out, tear_out}
 use Rattle.lit_solve.proofs.problem.Problem.is_prunable.Goals as goal
-use Rattle.lit_solve.proofs.problem.Problem.is_prunable.Goals.{then-not-is_coherent, else-not-is_coherent, then-is_forced_later, else-is_forced_later}
+use Rattle.lit_solve.proofs.problem.Problem.is_prunable.Goals.{then-is_forced_later, else-is_forced_later}
 
-pub returns-then-is_forced_between-clause-prunable : goal.returns-then-is_forced_between-clause-prunable
-returns-then-is_forced_between-clause-prunable c found =
+pub returns-then-is_forced_between : goal.returns-then-is_forced_between
+returns-then-is_forced_between c found =
     let events = events_on c.args.self.now in
     let box = box_of c.args.self.now c.args.frame.now in
     let is = c.requires.contained in
@@ -13,24 +12,16 @@ returns-then-is_forced_between-clause-prunable c found =
     let byte = (byte_read_at events c.args.place).1 in
     let same : c.from-read.result ≡ read = c.from-read.ensures
     ∙ ap (λ (p : ℕ × ℕ). p.0) c.byte_read.ensures.is in
-    elim c.if-is_forced_later.branch [
-      | then-is_forced_later w ↦
-          elim c.if-not-is_coherent.branch [
-            | then-not-is_coherent x ↦
-                incoherent_out box c.args.frame.now is read byte c.args.source
-                (λ coherent. false≢true (sym x.if-not-is_coherent.true ∙ c.is_coherent.ensures.1 coherent))
-            | else-not-is_coherent x ↦
-                let later = x.is_forced_later.ensures.0 (sym x.value-is ∙ w.if-is_forced_later.true) in
-                subst (λ (r : ℕ). IsPrunable box r byte c.args.source) same (later_out box c.args.frame.now is c.from-read.result byte c.args.source later.0 later.1)
-          ]
-      | else-is_forced_later w ↦
-          let between = w.is_forced_between.ensures.0 (sym w.value-is ∙ found) in
-          subst (λ (r : ℕ). IsPrunable box r byte c.args.source) same
-          (between_out box c.args.frame.now is c.from-read.result byte c.args.source between.0 between.1 between.2 between.3)
-    ]
+    subst (λ (r : ℕ). IsPrunable box r byte c.args.source) same
+    (elim c.if-is_forced_later.branch [
+      | then-is_forced_later w ↦ (let later = c.is_forced_later.ensures.0 w.if-is_forced_later.true in
+          later_out box c.args.frame.now is c.from-read.result byte c.args.source later.0 later.1)
+      | else-is_forced_later w ↦ (let between = w.is_forced_between.ensures.0 (sym w.value-is ∙ found) in
+          between_out box c.args.frame.now is c.from-read.result byte c.args.source between.0 between.1 between.2 between.3)
+    ])
 
-pub returns-else-is_forced_between-clause-prunable : goal.returns-else-is_forced_between-clause-prunable
-returns-else-is_forced_between-clause-prunable c found =
+pub returns-else-is_forced_between : goal.returns-else-is_forced_between
+returns-else-is_forced_between c found =
     let events = events_on c.args.self.now in
     let box = box_of c.args.self.now c.args.frame.now in
     let read = (byte_read_at events c.args.place).0 in
