@@ -1,7 +1,7 @@
 //! All outcomes of a frame, by backtracking: first by the values of observed byte reads, and where some of these are of no execution, by
 //! sources.
 
-ghost use Rattle.std.specs.Prelude.{◌≡◌, ◌<◌, IfOk, IfSome, IsFalse, IsTrue, OnOk, length};
+ghost use Rattle.std.specs.Prelude.{◌≡◌, ◌<◌, IfOk, IfSome, IsFalse, IsSome, IsTrue, OnOk, length};
 ghost use Rattle.lit_paths.specs.ByteReads.{byte_read_at, byte_reads};
 ghost use Rattle.lit_paths.specs.Execution.{Execution, execution_outcome};
 ghost use Rattle.lit_solve.specs.Box.{events_on};
@@ -24,6 +24,16 @@ use crate::problem::Problem;
 use crate::table::OutcomeTable;
 use lit_valid::laws::laws_below;
 use std::alloc::{AllocError, Global};
+
+/// What a search by values ends at behind a frame of which it found that it has no completion, or did not.
+fn end_at(none: bool, gives_up: bool) -> Option<bool>
+    ensures { IsFalse gives_up → IsSome result }
+{
+    if gives_up && none {
+        return None;
+    }
+    Some(none)
+}
 
 impl Problem<'_> {
     /// A byte read of a read that can force something and whose sources store several bytes.
@@ -75,13 +85,14 @@ impl Problem<'_> {
         Some(self.forcing_observed(frame).unwrap_or(open))
     }
 
-    /// Records the one outcome of a frame, if the table lacks it and the frame has a completion. Answers whether the outcome is in the
-    /// table then. If `sure`, the frame has a completion.
+    /// Records the one outcome of a frame, if the table lacks it and the frame has a completion. Answers whether it found that the frame
+    /// has none, or `doubt` where the table had the outcome. If `sure`, the frame has a completion.
     pub(crate) fn record<T: OutcomeTable>(
         &self,
         frame: &Frame,
         outcome: &[u32],
         sure: bool,
+        doubt: bool,
         table: &mut T,
     ) -> Result<bool, AllocError>
         requires settled { IsSettled (box_of self.now frame.now) frame.now }
@@ -91,17 +102,17 @@ impl Problem<'_> {
         ensures whole { OnOk result (HasEachOutcome (box_of self.now frame.now) (T.entries table.new)) }
     {
         if table.has(outcome) {
-            return Ok(true);
+            return Ok(doubt);
         }
         let Some(least) = self.least(frame, Goal::Any, sure) else {
-            return Ok(false);
+            return Ok(true);
         };
         let choice = number_of(&self.combination, least.sources.as_slice());
         table.record(outcome, choice, least.order)?;
-        Ok(true)
+        Ok(false)
     }
 
-    /// Records the outcomes of a leaf that the table lacks. Answers whether it has any.
+    /// Records the outcomes of a leaf that the table lacks. Answers whether it has none.
     fn leaf_outcomes<T: OutcomeTable, H: Heartbeat>(
         &self,
         alloc: Global,
@@ -115,68 +126,73 @@ impl Problem<'_> {
         ensures whole { OnOk result (HasEachOutcome (box_of self.now frame.now) (T.entries table.new)) }
     {
         let Some(order) = self.leaf_order(frame) else {
-            return Ok(false);
+            return Ok(true);
         };
         self.product_outcomes(alloc, &frame.domains, &order, table, heartbeat)?;
-        Ok(true)
+        Ok(false)
     }
 
-    /// Whether a search by values goes on into a frame: at once, or, if `sure`, only if the frame has a completion.
-    fn is_entered(&self, frame: &Frame, sure: bool) -> bool
+    /// Whether a frame may have a completion. It searches for one only where there is doubt.
+    fn may_complete(&self, frame: &Frame, doubt: bool) -> bool
         requires { IsSettled (box_of self.now frame.now) frame.now }
-        ensures sure { IsTrue sure → IsTrue result → HasSolution (box_of self.now frame.now) Any }
-        ensures none { IsFalse result → HasNoCompletion (box_of self.now frame.now) }
+        ensures { IsFalse result → HasNoCompletion (box_of self.now frame.now) }
     {
-        !sure || self.exists(frame, Goal::Any)
+        !doubt || self.exists(frame, Goal::Any)
     }
 
     /// Records the outcomes of a frame that the table lacks, by a search that branches on the values of observed byte reads. `values` are
-    /// the first of each outcome. Answers `false` where it gave up at a frame that has no completion. If `sure`, the frame has one; then
-    /// it goes on only into frames that have one, and never gives up.
+    /// the first of each outcome. Answers what it ended at: `None` where it gave up, which it does only if told to, at a frame that has
+    /// no completion; else whether the last frame had none. While that is so it descends only into frames with a completion, and so it
+    /// does from the beginning if there is doubt.
     fn outcomes_by_values<T: OutcomeTable, H: Heartbeat>(
         &self,
         alloc: Global,
         frame: &Frame,
         values: &Values,
-        sure: bool,
+        doubt: bool,
+        gives_up: bool,
         table: &mut T,
         heartbeat: &H,
-    ) -> Result<bool, AllocError>
+    ) -> Result<Option<bool>, AllocError>
         requires settled { IsSettled (box_of self.now frame.now) frame.now }
         requires first { AreFirstValues (box_of self.now frame.now) values.now.items }
-        requires sure { IsTrue sure → HasSolution (box_of self.now frame.now) Any }
         ensures added { AddsEntries (box_of self.now frame.now) (T.entries table.old) (T.entries table.new) }
-        ensures whole { IfOk result (λ all. IsTrue all → HasEachOutcome (box_of self.now frame.now) (T.entries table.new)) }
-        ensures sure { IsTrue sure → IfOk result IsTrue }
+        ensures whole { IfOk result (λ end. IsSome end → HasEachOutcome (box_of self.now frame.now) (T.entries table.new)) }
+        ensures ends { IsFalse gives_up → IfOk result IsSome }
     {
         // For the prover: an execution's outcome follows from its sources.
         laws_below();
         heartbeat.beat();
         let mut values = values.clone()?;
         let Some(place) = self.next_observed(frame, &mut values) else {
-            let there = self.record(frame, values.as_slice(), sure, table)?;
-            return Ok(sure || there);
+            let none = self.record(frame, values.as_slice(), false, doubt, table)?;
+            return Ok(end_at(none, gives_up));
         };
         let Some(_branch) = self.branch(frame) else {
-            let there = self.leaf_outcomes(alloc, frame, table, heartbeat)?;
-            return Ok(sure || there);
+            let none = self.leaf_outcomes(alloc, frame, table, heartbeat)?;
+            return Ok(end_at(none, gives_up));
         };
         // For the prover: a combination has few events.
         let _events = self.events();
         let all = self.sources_left(frame, place);
         let mut left = all;
+        let mut doubt = doubt;
         while let Some((source, _others)) = left.split_first() {
             let group = self.storing_same(all, place, source);
             let mut next = *frame;
-            if self.cut(&mut next, place, group) && self.is_entered(&next, sure) {
-                let done = self.outcomes_by_values(alloc, &next, &values, sure, table, heartbeat)?;
-                if !done {
-                    return Ok(false);
-                }
+            // To refute an outcome takes long, and the next ones are mostly infeasible too: one search for any completion costs less.
+            if self.cut(&mut next, place, group) && self.may_complete(&next, doubt) {
+                let end = self.outcomes_by_values(
+                    alloc, &next, &values, doubt, gives_up, table, heartbeat,
+                )?;
+                let Some(none) = end else {
+                    return Ok(None);
+                };
+                doubt = none;
             }
             left = left.difference(group);
         }
-        Ok(true)
+        Ok(Some(doubt))
     }
 
     /// Records the outcomes of a frame that the table lacks (decision 189).
@@ -191,17 +207,10 @@ impl Problem<'_> {
         ensures added { AddsEntries (box_of self.now frame.now) (T.entries table.old) (T.entries table.new) }
         ensures whole { OnOk result (HasEachOutcome (box_of self.now frame.now) (T.entries table.new)) }
     {
-        let none = Values::new();
-        if self.outcomes_by_values(alloc, frame, &none, false, table, heartbeat)? {
-            return Ok(());
+        let few = self.has_few_ways(frame);
+        match self.outcomes_by_values(alloc, frame, &Values::new(), false, few, table, heartbeat)? {
+            Some(_) => Ok(()),
+            None => self.outcomes_by_sources(frame, frame, table, heartbeat),
         }
-        // To refute values takes long, and where some are of no execution, most are.
-        if self.has_few_ways(frame) {
-            return self.outcomes_by_sources(frame, frame, table, heartbeat);
-        }
-        if self.exists(frame, Goal::Any) {
-            self.outcomes_by_values(alloc, frame, &none, true, table, heartbeat)?;
-        }
-        Ok(())
     }
 }

@@ -109,7 +109,7 @@ impl Problem<'_> {
         laws_below();
         let mut values = values.clone()?;
         let Some(place) = self.observe(&frame.domains, &mut values) else {
-            self.record(frame, values.as_slice(), true, table)?;
+            self.record(frame, values.as_slice(), true, false, table)?;
             return Ok(());
         };
         // For the prover: a combination has few events.

@@ -84,16 +84,41 @@ fn cut_by_sources(plan: &Plan<'_>, wanted: u64) -> u64
     cut.min(plan.total()).max(1)
 }
 
+/// Whether outcomes show the source of the first byte read that has several candidates.
+fn shows_first(combination: &Combination<'_>) -> bool {
+    for (place, at) in combination.byte_reads().iter().enumerate() {
+        if combination.candidates(place).len() > 1 {
+            return is_observed(combination, at.read);
+        }
+    }
+    true
+}
+
+/// How many even pieces so many workers draw at the most. Where no outcome shows the first sources, most outcomes of a combination are
+/// in each piece of it, so that there are no more pieces than combinations (decision 63).
+fn even_pieces(plan: &Plan<'_>, workers: usize) -> u64
+    ensures { 0 < result }
+{
+    let pieces = pieces_of(workers);
+    let combinations = plan.combinations();
+    if shows_first(&plan.enter(0)) {
+        pieces
+    } else {
+        pieces.min(combinations as u64)
+    }
+}
+
 /// How many choices a piece of a search for outcomes has. For several workers the cut is by the sources of leading observed bytes, where
 /// that makes more pieces than an even cut.
 pub(crate) fn cut_for_outcomes(plan: &Plan<'_>, options: Options) -> u64
     ensures some { 0 < result }
     ensures small { result ≤ CUT_LIMIT }
 {
-    let wanted = pieces_of(options.workers);
-    let even = plan.total().div_ceil(wanted);
+    let even = plan.total().div_ceil(even_pieces(plan, options.workers));
     if options.workers == 1 {
         return options.cut.max(even);
     }
-    options.cut.max(cut_by_sources(plan, wanted).min(even))
+    options
+        .cut
+        .max(cut_by_sources(plan, pieces_of(options.workers)).min(even))
 }

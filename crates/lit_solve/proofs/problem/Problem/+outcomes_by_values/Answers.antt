@@ -1,11 +1,11 @@
-use Rattle.lit_solve.proofs.Words.{◌<◌, AddsEntries, ap, box_of, Entry, Execution, inr, IsCompletion, List, refl, size_of, subst, sym}
+use Rattle.lit_solve.proofs.Words.{◌<◌, AddsEntries, ap, box_of, Entry, Execution, inr, IsCompletion, is_some, List, refl, size_of, subst, sym}
 use Rattle.lit_solve.proofs.Words.{TakesFrom, ℕ}
 use Rattle.lit_solve.proofs.EntryLemmas.{adds_more, adds_none}
 use Rattle.lit_solve.proofs.PruningLemmas.{source_known}
 use Rattle.lit_solve.proofs.SearchingLemmas.{left_less}
 use Rattle.lit_solve.proofs.ObservedLemmas.{IsSeen, same_stores_among, all_seen, first_within, part_adds, seen_part, seen_past, some_differ}
 use Rattle.lit_solve.proofs.problem.Problem.+outcomes_by_values.Goals as goal
-use Rattle.lit_solve.proofs.problem.Problem.+outcomes_by_values.Goals.{then-cut+then-is_entered+in_ok-done+else-not-done, else-cut, else-cut-via-then-cut+else-is_entered, else-cut-via-else-cut}
+use Rattle.lit_solve.proofs.problem.Problem.+outcomes_by_values.Goals.{then-cut+then-may_complete+in_ok-end+in-Some-end, else-cut, else-cut-via-then-cut+else-may_complete, else-cut-via-else-cut}
 
 pub loop-source-init : goal.loop-source-init
 loop-source-init g t c = record {
@@ -40,18 +40,15 @@ outcomes_by_values-requires g t c κs within =
           within.1,
           (
             c.cut.ensures.settled c.if-cut.true,
-            (
-              first_within box c.cut.new.frame.domains c.next_observed.new.values.items (c.cut.ensures.cut c.if-cut.true).within
-                  c.next_observed.ensures.first,
-              λ known. c.is_entered.ensures.sure known c.if-is_entered.true,
-            ),
+            first_within box c.cut.new.frame.domains c.next_observed.new.values.items (c.cut.ensures.cut c.if-cut.true).within
+                c.next_observed.ensures.first,
           ),
         ),
       ),
     )
 
-pub returns-in_err-done-clause-added : goal.returns-in_err-done-clause-added
-returns-in_err-done-clause-added g t c =
+pub returns-in_err-end-clause-added : goal.returns-in_err-end-clause-added
+returns-in_err-end-clause-added g t c =
     let box = box_of c.args.self.now c.args.frame.now in
     let place = c.in-Some.place in
     let matching = same_stores_among box place c.in-Some-split_first.source c.sources_left-all.result c.storing_same-group.result c.sources_left-all.ensures
@@ -64,8 +61,8 @@ returns-in_err-done-clause-added g t c =
     c.in-Some.ensures.observed.0 c.in-Some.ensures.observed.2 c.in-Some-split_first.source c.storing_same-group.result matching
     c.cut.new.frame.domains (c.cut.ensures.cut c.if-cut.true) mid new c.outcomes_by_values.ensures.added)
 
-pub returns-then-not-done-clause-added : goal.returns-then-not-done-clause-added
-returns-then-not-done-clause-added g t c =
+pub returns-in_default-end-clause-added : goal.returns-in_default-end-clause-added
+returns-in_default-end-clause-added g t c =
     let box = box_of c.args.self.now c.args.frame.now in
     let place = c.in-Some.place in
     let matching = same_stores_among box place c.in-Some-split_first.source c.sources_left-all.result c.storing_same-group.result c.sources_left-all.ensures
@@ -99,17 +96,17 @@ loop-source-preserved g t c =
     seen_past box place old mid c.loop-source.left group rest c.difference-left.ensures c.in-Some.ensures.observed.0
     c.loop-source.invariant.added c.loop-source.invariant.seen none in
     let goes : AddsEntries box old (entries c.if-cut.table) × IsSeen box place (entries c.if-cut.table) rest = elim c.if-cut.branch [
-      | then-cut+then-is_entered+in_ok-done+else-not-done w ↦
+      | then-cut+then-may_complete+in_ok-end+in-Some-end w ↦
           subst (λ (es : List Entry). AddsEntries box old es × IsSeen box place es rest) (sym (ap entries w.table-is))
           (seen_part c.laws_below.ensures box c.requires.settled.exact.contained.is_box c.events-events.ensures.sound place
           c.in-Some.ensures.observed.0 c.in-Some.ensures.observed.2 c.in-Some-split_first.source group matching c.cut.new.frame.domains
           (c.cut.ensures.cut w.if-cut.true) old mid (entries w.outcomes_by_values.new.table) c.loop-source.left rest c.difference-left.ensures
-          c.loop-source.invariant.added c.loop-source.invariant.seen w.outcomes_by_values.ensures.added (w.in_ok-done.ensures.whole w.if-not-done.false))
+          c.loop-source.invariant.added c.loop-source.invariant.seen w.outcomes_by_values.ensures.added (w.in_ok-end.ensures.whole (ap is_some w.in-Some-end.is)))
       | else-cut w ↦
           subst (λ (es : List Entry). AddsEntries box old es × IsSeen box place es rest) (sym (ap entries w.table-is))
           (past (elim w.else-cut.branch [
-            | else-cut-via-then-cut+else-is_entered v ↦
-                (λ x is takes. v.is_entered.ensures.none v.if-is_entered.false x ((c.cut.ensures.cut v.if-cut.true).retained x is takes))
+            | else-cut-via-then-cut+else-may_complete v ↦
+                (λ x is takes. v.may_complete.ensures v.if-may_complete.false x ((c.cut.ensures.cut v.if-cut.true).retained x is takes))
             | else-cut-via-else-cut v ↦ c.cut.ensures.none v.if-cut.false
           ]))
     ] in
