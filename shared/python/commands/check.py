@@ -60,7 +60,7 @@ def parsed(given):
     parser.add_jobs()
     parser.add_limit(10)
     parser.add_argument("path", nargs="*")
-    words = parser.parse_intermixed_args(given)
+    words = parser.parse_among(given, "path")
     if words.tsv and words.notes:
         parser.error("--notes doesn't go with --tsv")
     return words

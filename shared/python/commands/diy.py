@@ -75,7 +75,7 @@ def parsed(given):
     parser.add_limit(10)
     parser.add_jobs()
     parser.add_argument("words", nargs="*")
-    words = parser.parse_intermixed_args(given)
+    words = parser.parse_among(given, "words")
     if not words.upto and (words.accesses or not words.words):
         parser.error("--accesses stands beside --upto" if words.accesses else "give a cycle, such as PodWR Fre PodWR Fre, or --upto N")
     return words

@@ -23,6 +23,13 @@ class Words(argparse.ArgumentParser):
     def error(self, message):
         raise Fault(f"{shown(message)}; {self.prog} --help says what they may be", statuses.WORDS)
 
+    def parse_among(self, given, files):
+        """What the words say, options among files; behind `--` each word is a file."""
+        cut = given.index("--") if "--" in given else len(given)
+        words = self.parse_intermixed_args(given[:cut])
+        getattr(words, files).extend(given[cut + 1:])
+        return words
+
     def add_limit(self, default):
         """How long each run of the program may take."""
         self.add_argument("--limit", type=seconds_of, default=default)

@@ -4,7 +4,6 @@
 
 const { bytesOf, signsOf } = require('../../../javascript/signs.js');
 
-const TEXT_LIMIT = 65536;
 const SECONDS = 10;   // for an answer
 const KEPT = ['values', 'execution'];   // what is asked of many small texts, one after the other
 const MODULE = bytesOf(atob(engine.module));
@@ -50,4 +49,4 @@ function ask(name, kind, given, text) {
   });
 }
 
-module.exports = { TEXT_LIMIT, ask, rest, stop };
+module.exports = { ask, rest, stop };

@@ -2,8 +2,9 @@
 // JavaScript from the editor, which this browser runs: a worker in a sandboxed frame explores it, and asks this page about litmus texts.
 // What comes from there may be the code's own words, so it is taken for texts to ask about and for lines to show, and for nothing else.
 
-const { TEXT_LIMIT, ask, rest, stop } = require('./ask.js');
+const { ask, rest, stop } = require('./ask.js');
 const { make } = require('./make.js');
+const { limits } = require('../../../javascript/limits.js');
 const { signsOf } = require('../../../javascript/signs.js');
 
 const SECONDS = 120;      // for an answer
@@ -120,7 +121,7 @@ class Session {
   }
 
   async asked(name, text, why) {
-    if (signsOf(text).length > TEXT_LIMIT) return { kind: 'failed', said: 'a text is too long' };
+    if (signsOf(text).length > limits.text) return { kind: 'failed', said: 'a text is too long' };
     return why === undefined ? ask(name, 'values', {}, text) : ask(name, 'execution', { sources: why[1] ?? '' }, text);
   }
 

@@ -1,7 +1,7 @@
 'use strict';
 // The page: a text, what the program says of it, and the execution of an outcome.
 
-const { TEXT_LIMIT, ask, stop } = require('./ask.js');
+const { ask, stop } = require('./ask.js');
 const { addressOf, textOf } = require('./address.js');
 const { clearFault, goTo, onChange, setText, showRefusal, text } = require('./editor.js');
 const { choose, languageOf, showLanguage } = require('./language.js');
@@ -11,6 +11,7 @@ const { hideProgram, runProgram, stopProgram } = require('./program.js');
 const { savePng, saveSvg, saveText } = require('./save.js');
 const { setOutcomes, spoken } = require('./table.js');
 const { newText } = require('./turns.js');
+const { limits } = require('../../../javascript/limits.js');
 const { signsOf } = require('../../../javascript/signs.js');
 const { linesOf, say, sayRacing, sayStopped, sayVerdict } = require('./verdict.js');
 
@@ -48,8 +49,8 @@ function runCode() {
 }
 
 function isTooLong(length) {
-  if (length > TEXT_LIMIT) say('failed', `The text has ${grouped(length)} bytes, and ${grouped(TEXT_LIMIT)} at most.`);
-  return length > TEXT_LIMIT;
+  if (length > limits.text) say('failed', `The text has ${grouped(length)} bytes, and ${grouped(limits.text)} at most.`);
+  return length > limits.text;
 }
 
 async function run(kind, words = {}, of = text()) {
