@@ -28,6 +28,9 @@ use std::alloc::AllocError;
 /// How many ways to choose sources take about as long as to refute the values of one outcome (decision 189).
 const WAYS_OF_AN_OUTCOME: u64 = 64;
 
+/// How many ways to choose sources are few at the most, so that what was thought to be quick ends within a second or two.
+const MOST_WAYS: u64 = 1_048_576;
+
 impl Problem<'_> {
     /// How many bytes the sources in the domain of the byte read at a place store.
     fn bytes_at(&self, frame: &Frame, place: usize) -> u64
@@ -86,7 +89,7 @@ impl Problem<'_> {
         requires { IsContained (box_of self.now frame.now) frame.now }
     {
         let ways = self.ways_of(frame);
-        ways < u64::MAX && ways <= self.values_of(frame).saturating_mul(WAYS_OF_AN_OUTCOME)
+        ways <= MOST_WAYS && ways <= self.values_of(frame).saturating_mul(WAYS_OF_AN_OUTCOME)
     }
 
     /// Records the outcome of a completion of a frame, by its sources, if the table lacks it: with its least example in the frame. The
