@@ -2,6 +2,7 @@
 
 mod alone;
 mod answering;
+mod attempt;
 mod cutting;
 pub(crate) mod printing;
 pub(crate) mod workers;

@@ -10,6 +10,11 @@ pub trait Watch: Gate {
 
     /// The search is over, and nothing is written yet. A run calls this once for each call of `begin`.
     fn end(&self);
+
+    /// Whether it follows pieces. Where it does not, a run may find its report without a piece.
+    fn follows_pieces(&self) -> bool {
+        true
+    }
 }
 
 /// Follows nothing.
@@ -17,4 +22,8 @@ impl Watch for OpenGate {
     fn begin(&self, _pieces: u64) {}
 
     fn end(&self) {}
+
+    fn follows_pieces(&self) -> bool {
+        false
+    }
 }

@@ -16,4 +16,4 @@ pub use found::{Example, Found, Outcome};
 pub use lit_interleave::{SearchFault, interleave};
 pub use lit_solve::{Heartbeat, NoHeartbeat};
 pub use lit_valid::Class;
-pub use searching::{first_in, search_range};
+pub use searching::{first_in, search_range, search_range_with};

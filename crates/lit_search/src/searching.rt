@@ -15,7 +15,9 @@ use crate::found::examples::Examples;
 use lit_interleave::SearchFault;
 use lit_paths::{BYTE_READ_LIMIT, Plan};
 use lit_rel::EventSet;
-use lit_solve::{Boxes, Goal, Heartbeat, NoHeartbeat, Problem, exists, least, number_of, outcomes};
+use lit_solve::{
+    Boxes, Goal, Heartbeat, NoHeartbeat, Problem, least, number_of, outcomes_and_race,
+};
 use lit_valid::Class;
 use lit_valid::laws::laws_below;
 use std::alloc::{AllocError, Global};
@@ -101,9 +103,8 @@ fn record_on<H: Heartbeat>(
     let mut race = mark;
     for place in 0..boxes.len() {
         boxes.put(place, &mut domains);
-        outcomes(alloc, problem, &domains, table, heartbeat)?;
         // Once marked, no further box is searched for a data race.
-        race = race || exists(problem, &domains, Goal::Race);
+        race = outcomes_and_race(alloc, problem, &domains, table, heartbeat, race)?;
     }
     Ok(race)
 }
@@ -149,7 +150,22 @@ pub fn search_range(
     requires known { to ≤ length (choices_of plan.now) }
     ensures { IfOk result (IsReport plan.now (in_range from to)) }
 {
+    search_range_with(alloc, plan, &NoHeartbeat, from, to)
+}
+
+/// This is `search_range` with a heartbeat: where that ends the search, the answer is `SearchFault::OutOfMemory` too.
+pub fn search_range_with<H: Heartbeat>(
+    alloc: Global,
+    plan: &Plan<'_>,
+    heartbeat: &H,
+    from: u64,
+    to: u64,
+) -> Result<Found, SearchFault>
+    requires order { from ≤ to }
+    requires known { to ≤ length (choices_of plan.now) }
+    ensures { IfOk result (IsReport plan.now (in_range from to)) }
+{
     let mut collector = Collector::new(alloc, &*plan);
-    collector.take(&NoHeartbeat, from, to)?;
+    collector.take(heartbeat, from, to)?;
     collector.into_found()
 }

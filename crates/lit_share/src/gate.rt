@@ -1,6 +1,7 @@
 //! Gates: what each worker calls on entering a piece.
 
 use lit_search::Heartbeat;
+use std::alloc::AllocError;
 
 /// What each worker calls on entering each of its pieces. Workers on threads of their own share a gate by reference. So it sees the
 /// pieces as they are entered, and may delay a worker or report its progress. The answer of a search does not depend on it.
@@ -22,8 +23,9 @@ pub(crate) struct GateBeat<'a, G> {
 }
 
 impl<G: Gate> Heartbeat for GateBeat<'_, G> {
-    fn beat(&self) {
+    fn beat(&self) -> Result<(), AllocError> {
         self.gate.alive();
+        Ok(())
     }
 }
 

@@ -162,7 +162,7 @@ impl Problem<'_> {
     {
         // For the prover: an execution's outcome follows from its sources.
         laws_below();
-        heartbeat.beat();
+        heartbeat.beat()?;
         let mut values = values.clone()?;
         let Some(place) = self.next_observed(frame, &mut values) else {
             let none = self.record(frame, values.as_slice(), false, doubt, table)?;

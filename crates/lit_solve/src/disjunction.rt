@@ -32,10 +32,10 @@ impl Problem<'_> {
         let read = usize::from(self.byte_read(place).read);
         let mut before = EventSet::below(self.events().len());
         let mut left = frame.domains[place];
+        if !left.is_within(self.synchronizing(read)) {
+            return EventSet::new();
+        }
         while let Some((source, others)) = left.split_first() {
-            if !self.can_synchronize(source, read) {
-                return EventSet::new();
-            }
             before = before.intersection(ordered.converse.successors(source).with(source));
             left = others;
         }

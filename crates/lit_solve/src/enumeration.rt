@@ -163,7 +163,7 @@ impl Problem<'_> {
         ensures added { AddsEntries (box_of self.now root.now) (T.entries table.old) (T.entries table.new) }
         ensures whole { OnOk result (HasEachOutcome (box_of self.now frame.now) (T.entries table.new)) }
     {
-        heartbeat.beat();
+        heartbeat.beat()?;
         let mut values = Values::new();
         let open = self.observe(&frame.domains, &mut values);
         if open.is_none() && table.has(values.as_slice()) {

@@ -7,6 +7,7 @@ ghost use Rattle.lit_paths.specs.Event.{event_at as event_of};
 ghost use Rattle.lit_rel.specs.Between.{Forbids};
 ghost use Rattle.lit_rel.specs.EventSet.{HasEvent};
 ghost use Rattle.lit_rel.specs.Forbidden.{IsForbiddenBetween};
+ghost use Rattle.lit_rel.specs.Peers.{IsSeqCstWrite};
 ghost use Rattle.lit_rel.specs.Rows.{Holds};
 ghost use Rattle.lit_rel.specs.SynchronizesWith.{CanSynchronize};
 ghost use Rattle.lit_order.specs.Forcing.{HasForcedCycle};
@@ -60,6 +61,19 @@ impl Problem<'_> {
     {
         let events = self.events();
         can_synchronize(event_at(events, source), event_at(events, read))
+    }
+
+    /// The events that synchronize with a read that reads from them. It is given by its number.
+    pub(crate) fn synchronizing(&self, read: usize) -> EventSet
+        requires { read < length (events_on self.now) }
+        ensures { (w : ℕ) → HasEvent result w ↔ (IsSeqCstWrite (events_on self.now) w
+            × CanSynchronize (event_of (events_on self.now) w) (event_of (events_on self.now) read)) }
+    {
+        if event_at(self.events(), read).is_seq_cst() {
+            self.peers.successors(read)
+        } else {
+            EventSet::new()
+        }
     }
 
     /// Adds to happens-before that the given source of a byte read comes before its read, if the two synchronize.

@@ -1,9 +1,14 @@
-//! The heartbeat of a search: a sign that it still runs.
+//! The heartbeat of a search: a sign that it still runs, and a way to end it.
 
-/// What a search for outcomes calls at each step down, so that a caller can tell that it still runs. No answer depends on it.
+use std::alloc::AllocError;
+
+/// What a search for outcomes calls at each step down, so that a caller can tell that it still runs, or end it. No other answer depends
+/// on it.
 pub trait Heartbeat {
-    /// The search has descended one step.
-    fn beat(&self) {}
+    /// The search has descended one step. An error ends it, as memory that is refused does.
+    fn beat(&self) -> Result<(), AllocError> {
+        Ok(())
+    }
 }
 
 /// A heartbeat that does nothing.

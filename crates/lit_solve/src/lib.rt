@@ -45,5 +45,5 @@ pub use least_search::Least;
 pub use numbering::number_of;
 pub use observation::ReadValue;
 pub use problem::Problem;
-pub use solver::{exists, least, outcomes};
+pub use solver::{exists, least, outcomes, outcomes_and_race};
 pub use table::OutcomeTable;

@@ -16,22 +16,11 @@ use crate::laws::{
     completions_fill_each_read, completions_have_no_prunable_source,
     refuted_boxes_have_no_completion,
 };
+use crate::node_consistency::refused_among;
 use crate::problem::Problem;
 use lit_rel::{EventSet, unsourced_order};
 
 impl Problem<'_> {
-    /// Whether some byte read has an empty domain.
-    fn has_empty(&self, domains: &Domains) -> bool
-        ensures { IsTrue result ↔ HasEmptyDomain (box_with self.now domains.now) }
-    {
-        for place in 0..self.reads() {
-            if domains[place].is_empty() {
-                return true;
-            }
-        }
-        false
-    }
-
     /// A frame of a box without empty domains, before any propagation.
     fn unsettled(&self, domains: &Domains) -> Frame
         requires is_box { IsBox (box_with self.now domains.now) }
@@ -47,18 +36,29 @@ impl Problem<'_> {
         }
     }
 
-    /// The domains without the sources that a guard refuses: they are node consistent.
-    fn consistent(&self, domains: &Domains) -> Domains
+    /// The domains without the sources that a guard refuses: they are node consistent. `None` if that leaves one empty.
+    fn consistent(&self, domains: &Domains) -> Option<Domains>
         requires { IsBox (box_with self.now domains.now) }
-        ensures is_box { IsBox (box_with self.now result) }
-        ensures prunes { Prunes (box_with self.now domains.now) (box_with self.now result) }
+        ensures is_box { IfSome result (λ left. IsBox (box_with self.now left)) }
+        ensures prunes { IfSome result (λ left. Prunes (box_with self.now domains.now) (box_with self.now left)) }
+        ensures some { IfSome result (λ left. ¬ HasEmptyDomain (box_with self.now left)) }
+        ensures none { IfNone result (HasNoCompletion (box_with self.now domains.now)) }
     {
         completions_have_no_prunable_source();
+        refuted_boxes_have_no_completion();
         let mut left = *domains;
         for place in 0..self.reads() {
-            left[place] = left[place].difference(self.refused[place]);
+            // Most combinations are refuted here, by a guard that no source of its read meets: only the domains so far are looked at.
+            left[place] = left[place].difference(refused_among(
+                &self.combination,
+                place,
+                left[place],
+            ));
+            if left[place].is_empty() {
+                return None;
+            }
         }
-        left
+        Some(left)
     }
 
     /// The frame of a box, pruned and propagated until nothing more is forced. `None` if that refutes the box.
@@ -73,10 +73,7 @@ impl Problem<'_> {
         if self.has_false_unwritten() {
             return None;
         }
-        let domains = self.consistent(domains);
-        if self.has_empty(&domains) {
-            return None;
-        }
+        let domains = self.consistent(domains)?;
         let mut frame = self.unsettled(&domains);
         if self.propagate(&mut frame) && self.can_fill_each(&frame.domains) {
             Some(frame)

@@ -8,7 +8,6 @@ ghost use Rattle.lit_paths.specs.declared.limits.TheConstants.{BYTE_READ_LIMIT};
 ghost use Rattle.lit_solve.specs.Box.{events_on};
 
 use crate::domains::{Domains, candidates_of};
-use crate::node_consistency::refused_among;
 use lit_paths::{BYTE_READ_LIMIT, ByteRead, Combination, Event, Plan};
 use lit_rel::laws::byte_reads_are_of_events;
 use lit_rel::{EventSet, Rows, peers_of};
@@ -21,8 +20,6 @@ pub struct Problem<'p> {
     pub(crate) combination: Combination<'p>,
     /// All candidates of each byte read.
     pub(crate) candidates: Domains,
-    /// The candidates that some guard refuses (decision 34).
-    pub(crate) refused: Domains,
     /// The sequentially consistent writes that have the range of each event.
     pub(crate) peers: Rows,
     /// The registers of an outcome, as agent and register.
@@ -44,7 +41,7 @@ impl<'p> Model for Problem<'p> {
 
     ghost view = { λ p. p.combination };
 
-    ghost invariant = { λ p. IsProblem p.combination p.candidates p.refused p.peers p.names.now p.guarded };
+    ghost invariant = { λ p. IsProblem p.combination p.candidates p.peers p.names.now p.guarded };
 }
 
 impl<'p> Problem<'p> {
@@ -58,11 +55,8 @@ impl<'p> Problem<'p> {
         let combination = plan.enter(combination);
         let peers = peers_of(combination.events());
         let mut candidates = [EventSet::new(); BYTE_READ_LIMIT];
-        let mut refused = [EventSet::new(); BYTE_READ_LIMIT];
         for place in 0..combination.byte_reads().len() {
-            let all = candidates_of(&combination, place);
-            candidates[place] = all;
-            refused[place] = refused_among(&combination, place, all);
+            candidates[place] = candidates_of(&combination, place);
         }
         let mut guarded = false;
         for agent in 0..combination.test().agents() {
@@ -71,7 +65,6 @@ impl<'p> Problem<'p> {
         Problem {
             combination,
             candidates,
-            refused,
             peers,
             names: plan.names(),
             guarded,

@@ -194,7 +194,7 @@ impl Problem<'_> {
         laws_below();
         leaves_are_filled_read_by_read();
         let _first = first_of(&self.combination);
-        heartbeat.beat();
+        heartbeat.beat()?;
         let Some((first, rest)) = reads.split_first() else {
             return self.record_chosen(domains, values.as_slice(), number, order, table);
         };

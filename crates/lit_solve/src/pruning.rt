@@ -7,7 +7,6 @@ ghost use Rattle.lit_rel.specs.Coherent.{IsCoherentRead};
 ghost use Rattle.lit_rel.specs.EventSet.{HasEvent};
 ghost use Rattle.lit_rel.specs.Forbidden.{IsForbiddenBetween};
 ghost use Rattle.lit_rel.specs.Rows.{Holds, rows_len};
-ghost use Rattle.lit_rel.specs.SynchronizesWith.{CanSynchronize};
 ghost use Rattle.lit_rel.specs.TearFree.{CanReadWhole, ReadsWholeBy};
 ghost use Rattle.lit_solve.specs.Box.{HasSource, events_on};
 ghost use Rattle.lit_solve.specs.Given.{GivenIn, HasAlone};
@@ -43,17 +42,6 @@ impl Problem<'_> {
             left = others;
         }
         incoherent
-    }
-
-    /// Whether a source that could synchronize with a read is forced after it.
-    fn is_forced_later(&self, frame: &Frame, read: usize, source: usize) -> bool
-        requires contained { IsContained (box_of self.now frame.now) frame.now }
-        requires read { read < length (events_on self.now) }
-        requires source { source < length (events_on self.now) }
-        ensures { IsTrue result ↔ (CanSynchronize (event_of (events_on self.now) source)
-            (event_of (events_on self.now) read) × Holds frame.now.forced.rows read source) }
-    {
-        frame.forced.rows.holds(read, source) && self.can_synchronize(source, read)
     }
 
     /// Whether an event is forced between a source and a read though it may not stand there if the read has that source.
@@ -128,8 +116,8 @@ impl Problem<'_> {
         !others.is_empty() && can_read_whole(event_at(events, read), event_at(events, source))
     }
 
-    /// Whether the frame shows that no completion has this source, with which it is coherent, for the byte read at a place. `whole` are
-    /// given sources of the read from which it reads whole.
+    /// Whether the frame shows that no completion has this source, with which it is coherent and which is not forced after it, for the
+    /// byte read at a place. `whole` are given sources of the read from which it reads whole.
     fn is_prunable(&self, frame: &Frame, place: usize, source: usize, whole: EventSet) -> bool
         requires place { place < length (byte_reads (events_on self.now)) }
         requires source { source < length (events_on self.now) }
@@ -140,9 +128,7 @@ impl Problem<'_> {
             (byte_read_at (events_on self.now) place).1 source }
     {
         let read = usize::from(self.byte_read(place).read);
-        self.is_forced_later(frame, read, source)
-            || self.is_forced_between(frame, read, source)
-            || self.would_tear(read, source, whole)
+        self.is_forced_between(frame, read, source) || self.would_tear(read, source, whole)
     }
 
     /// The sources in the domain of the byte read at a place that can't be pruned. The frame's happens-before is acyclic.
@@ -168,9 +154,12 @@ impl Problem<'_> {
         if self.given(frame, place).is_some() {
             return coherent;
         }
+        let read = usize::from(self.byte_read(place).read);
+        let after = frame.forced.rows.successors(read);
+        let later = after.intersection(self.synchronizing(read));
         let whole = self.whole_sources(frame, place);
         let mut left = EventSet::new();
-        let mut rest = coherent;
+        let mut rest = coherent.difference(later);
         while let Some((source, others)) = rest.split_first() {
             if !self.is_prunable(frame, place, source, whole) {
                 left = left.with(source);

@@ -1,9 +1,10 @@
 //! The solver's calls: whether a box has a solution, its least solution, and all its outcomes.
 
-ghost use Rattle.std.specs.Prelude.{◌↔◌, IsTrue, MatchOption, OnOk};
+ghost use Rattle.std.specs.Prelude.{◌↔◌, ◌⊎◌, IfOk, IsTrue, MatchOption, OnOk};
 ghost use Rattle.lit_solve.specs.Box.{IsBox, box_with};
 ghost use Rattle.lit_solve.specs.Completion.{HasSolution, IsLeastSolution};
 ghost use Rattle.lit_solve.specs.Outcomes.{AddsEntries, HasEachOutcome};
+ghost use Rattle.lit_solve.specs.declared.goal.Goal.TheVariants.{Race};
 
 use crate::domains::Domains;
 use crate::goal::Goal;
@@ -37,8 +38,30 @@ pub fn least(problem: &Problem<'_>, domains: &Domains, goal: Goal) -> Option<Lea
 }
 
 /// Records the outcomes of a box's completions that the table lacks. Each comes with the choice of the least sources of a completion that
-/// has it, and with their least memory-order. Answers `AllocError` if the table refuses to record one or if the memory for the values of
-/// reads, taken from `alloc`, is refused; some outcomes may be missing then. Calls the heartbeat at each step down.
+/// has it, and with their least memory-order. Then answers `true` if `mark` is, or if a completion has a data race. Answers `AllocError`
+/// if the table refuses to record an outcome or if the memory for the values of reads, taken from `alloc`, is refused; some outcomes may
+/// be missing then. Calls the heartbeat at each step down.
+pub fn outcomes_and_race<T: OutcomeTable, H: Heartbeat>(
+    alloc: Global,
+    problem: &Problem<'_>,
+    domains: &Domains,
+    table: &mut T,
+    heartbeat: &H,
+    mark: bool,
+) -> Result<bool, AllocError>
+    requires { IsBox (box_with problem.now domains.now) }
+    ensures added { AddsEntries (box_with problem.now domains.now) (T.entries table.old) (T.entries table.new) }
+    ensures whole { OnOk result (HasEachOutcome (box_with problem.now domains.now) (T.entries table.new)) }
+    ensures race { IfOk result (λ race. IsTrue race ↔ (IsTrue mark ⊎ HasSolution (box_with problem.now domains.now) Race)) }
+{
+    let Some(frame) = problem.settle(domains) else {
+        return Ok(mark);
+    };
+    problem.outcomes(alloc, &frame, table, heartbeat)?;
+    Ok(mark || problem.exists(&frame, Goal::Race))
+}
+
+/// This is `outcomes_and_race` without a search for a data race.
 pub fn outcomes<T: OutcomeTable, H: Heartbeat>(
     alloc: Global,
     problem: &Problem<'_>,
@@ -50,8 +73,7 @@ pub fn outcomes<T: OutcomeTable, H: Heartbeat>(
     ensures added { AddsEntries (box_with problem.now domains.now) (T.entries table.old) (T.entries table.new) }
     ensures whole { OnOk result (HasEachOutcome (box_with problem.now domains.now) (T.entries table.new)) }
 {
-    match problem.settle(domains) {
-        Some(frame) => problem.outcomes(alloc, &frame, table, heartbeat),
-        None => Ok(()),
-    }
+    // Nothing is searched for where the mark is made already.
+    outcomes_and_race(alloc, problem, domains, table, heartbeat, true)?;
+    Ok(())
 }

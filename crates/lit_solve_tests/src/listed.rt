@@ -69,7 +69,8 @@ pub(super) struct Beats {
 }
 
 impl Heartbeat for Beats {
-    fn beat(&self) {
+    fn beat(&self) -> Result<(), AllocError> {
         self.count.fetch_add(1, Ordering::SeqCst);
+        Ok(())
     }
 }

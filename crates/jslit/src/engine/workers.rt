@@ -11,6 +11,7 @@ ghost use Rattle.jslit.specs.Internal.Answering.{HasWritten, HasWrittenSome, IsO
 ghost use Rattle.jslit.specs.Internal.Searching.{IsFirstChoice};
 
 use crate::engine::answering::{quick_report, report};
+use crate::engine::attempt::found_soon;
 use crate::engine::cutting::{cut_for_outcomes, cut_of};
 use crate::engine::printing::Printer;
 use crate::fault::RunFault;
@@ -73,7 +74,14 @@ fn found_by<T: Threads + Sync, G: Watch>(
     ensures fault { IfErr result (λ fault. fault ≡ RunFault.OutOfMemory) }
 {
     let cut = cut_for_outcomes(plan, options);
-    watch.begin(plan.total().div_ceil(cut));
+    let pieces = plan.total().div_ceil(cut);
+    if pieces > 1
+        && !watch.follows_pieces()
+        && let Some(found) = found_soon(alloc, plan)
+    {
+        return Ok(found);
+    }
+    watch.begin(pieces);
     let searched = search(rt, alloc, plan, cut, watch, passes);
     watch.end();
     let found = searched?;

@@ -21,7 +21,6 @@ use Rattle.lit_rel.specs.SynchronizesWith.{CanSynchronize}
 use Rattle.lit_solve.specs.declared.frame.Frame.{Frame}
 use Rattle.lit_solve.specs.Box.{Box, HasEmptyDomain, HasSource, IsBox, box_events, box_with, events_on}
 use Rattle.lit_solve.specs.Given.{HappensBeforeIn, HasAlone, IsForcedIn}
-use Rattle.lit_solve.specs.Prunable.{IsRefusedOn}
 
 -- the box of a frame
 abbrev pub box_of : Litmus × ℕ → Frame → Box
@@ -58,20 +57,13 @@ AreCandidates events domains =
     (k r b w : ℕ) → slice_get (byte_reads events) k ≡ Some (r, b)
     → HasEvent (slice_index_or domains k no_events) w ↔ IsCandidate events r b w
 
--- the candidates of each byte read that a guard refuses
-abbrev pub AreRefused : Litmus × ℕ → List EventSet → Type 0
-AreRefused c domains =
-    (k r b w : ℕ) → slice_get (byte_reads (events_on c)) k ≡ Some (r, b)
-    → HasEvent (slice_index_or domains k no_events) w ↔ (IsCandidate (events_on c) r b w × IsRefusedOn c r b w)
-
 -- what a `Problem` saves of its combination
-pub record IsProblem (c : Litmus × ℕ) (candidates refused : List EventSet) (peers : Rows) (names : List (ℕ × ℕ))
+pub record IsProblem (c : Litmus × ℕ) (candidates : List EventSet) (peers : Rows) (names : List (ℕ × ℕ))
     (guarded : Bool) : Type 0 where
   pub litmus : IsLitmus c.0
   pub known : c.1 < length (combinations_of c.0)
   pub sound : AreEventsIn c.0.bytes (events_on c)
   pub all : AreCandidates (events_on c) candidates
-  pub by_guards : AreRefused c refused
   pub same_range : ArePeers (events_on c) peers
   pub named : names ≡ names_of c.0
   pub few_names : length names ≤ NAME_LIMIT

@@ -1,8 +1,7 @@
-use Rattle.lit_search.proofs.Words.{arith, boxes_len, false≢true, Gains, inl, inr, IsOfFirst, subst, sym, ℕ, ◌∙◌, ◌≡◌}
+use Rattle.lit_search.proofs.Words.{arith, boxes_len, Gains, IsOfFirst, subst, ℕ, ◌≡◌}
 use Rattle.lit_search.proofs.BoxedLemmas.{gained_all, gained_more, of_none}
 use Rattle.lit_search.proofs.GainLemmas.{gains_none, goes_more}
 use Rattle.lit_search.proofs.searching.record_on.Goals as goal
-use Rattle.lit_search.proofs.searching.record_on.Goals.{then-race, else-race}
 
 pub loop-place-init : goal.loop-place-init
 loop-place-init g c =
@@ -14,23 +13,13 @@ pub loop-place-preserved : goal.loop-place-preserved
 loop-place-preserved g c =
     gained_more c.laws_below.ensures c.args.problem.now c.args.from c.args.to c.boxes_of-boxes.result c.boxes_of-boxes.ensures
     c.loop-place.place (omega (arith, c.loop-place-test.true, c.len-place-end.ensures)) c.put.new.domains c.put.ensures.exact
-    c.args.table.now c.loop-place.table c.outcomes.new.table c.args.mark c.loop-place.race c.if-race.race
-    c.loop-place.invariant c.outcomes.ensures.added c.in_ok-outcomes.ensures.whole
-    (elim c.if-race.branch [
-      | then-race w ↦ rw w.race-is (λ p. inl w.if-race.true, λ h. w.if-race.true)
-      | else-race w ↦ rw w.race-is (
-        λ p. inr (w.exists-race.ensures.0 p),
-        λ h. w.exists-race.ensures.1 (elim h [
-          | inl mark ↦ absurd (false≢true (sym w.if-race.false ∙ mark))
-          | inr solved ↦ solved
-        ]),
-      )
-    ])
+    c.args.table.now c.loop-place.table c.outcomes_and_race.new.table c.args.mark c.loop-place.race c.in_ok-outcomes_and_race.field-0
+    c.loop-place.invariant c.outcomes_and_race.ensures.added c.in_ok-outcomes_and_race.ensures.whole c.in_ok-outcomes_and_race.ensures.race
 
-pub returns-in_err-outcomes-clause-goes_on : goal.returns-in_err-outcomes-clause-goes_on
-returns-in_err-outcomes-clause-goes_on g c =
-    goes_more c.args.table.now c.loop-place.table c.outcomes.new.table c.loop-place.invariant.goes_on
-    (record { added = c.outcomes.ensures.added.added; is = c.outcomes.ensures.added.goes_on })
+pub returns-in_err-outcomes_and_race-clause-goes_on : goal.returns-in_err-outcomes_and_race-clause-goes_on
+returns-in_err-outcomes_and_race-clause-goes_on g c =
+    goes_more c.args.table.now c.loop-place.table c.outcomes_and_race.new.table c.loop-place.invariant.goes_on
+    (record { added = c.outcomes_and_race.ensures.added.added; is = c.outcomes_and_race.ensures.added.goes_on })
 
 pub returns-clause-gains : goal.returns-clause-gains
 returns-clause-gains g c =

@@ -1,9 +1,12 @@
-use Rattle.lit_solve.proofs.Words.{◌<◌, AddsEntries, ap, box_of, Entry, execution_outcome, HasOutcome, List, size_of, subst, sym, ℕ}
+use Rattle.std.specs.Prelude.{IsNone}
+use Rattle.lit_solve.proofs.Words.{◌<◌, AddsEntries, ap, arith, Box, box_of, Entry, Execution, execution_outcome, HasOutcome, IsCompletion}
+use Rattle.lit_solve.proofs.Words.{IsObservation, List, on_ok_weaker, Option, size_of, subst, sym, ℕ, ◌∙◌, ◌≡◌}
 use Rattle.lit_solve.proofs.EntryLemmas.{adds_more}
 use Rattle.lit_solve.proofs.EnumerationLemmas.{seen_next, undecided_of, within_on}
 use Rattle.lit_solve.proofs.ObservedLemmas.{all_seen, IsSeen, seen_more}
 use Rattle.lit_solve.proofs.PruningLemmas.{source_known}
-use Rattle.lit_solve.proofs.SearchingLemmas.{left_less, not_all}
+use Rattle.lit_solve.proofs.SearchingLemmas.{left_less, not_all, solution_out}
+use Rattle.lit_solve.specs.declared.goal.Goal.TheVariants.{Any}
 use Rattle.lit_solve.proofs.problem.Problem.+outcomes_by_sources.Goals as goal
 use Rattle.lit_solve.proofs.problem.Problem.+outcomes_by_sources.Goals.{then-cut+in_ok-outcomes_by_sources, else-cut}
 
@@ -85,3 +88,21 @@ pub returns-clause-whole : goal.returns-clause-whole
 returns-clause-whole g t c =
     all_seen (box_of c.args.self.now c.args.frame.now) c.in-Some.branch.place (g.T.OutcomeTable.entries c.loop-source.table)
     c.loop-source.left c.in_default-split_first.ensures c.in-Some.ensures.branch.known c.loop-source.invariant.seen
+
+-- what is not undecided has one outcome
+one_observed : (box : Box) (values : List ℕ) (place : Option ℕ) → IsNone place → IsObservation box values place → (x : Execution) → IsCompletion box x
+    → execution_outcome box.test x ≡ values
+one_observed box values place none is = grind arith
+
+-- the frame gives one outcome, that of its least completion
+pub returns-in_default-clause-whole : goal.returns-in_default-clause-whole
+returns-in_default-clause-whole g t c =
+    let root = box_of c.args.self.now c.args.root.now in
+    let frame = box_of c.args.self.now c.args.frame.now in
+    let least = c.in-Some-least.ensures in
+    let observed = one_observed frame c.observe-open.new.values.items c.observe-open.result c.in_default.ensures.none c.observe-open.ensures.observed in
+    let found = solution_out frame root Any c.requires.within least.execution least.solves in
+    on_ok_weaker c.record_alike.result (λ has x is.
+    subst (HasOutcome (g.T.OutcomeTable.entries c.record_alike.new.table)) (observed least.execution least.solves.completes ∙ sym (observed x is))
+    (has least.execution found.completes (least.same ∙ sym c.as_slice-in_default.ensures.value)))
+    c.record_alike.ensures.has

@@ -1,17 +1,11 @@
 use Rattle.lit_solve.proofs.Words.{box_of, byte_read_at, CanSynchronize, cases_eq, Event, event_at, events_on, HasEvent, HasSource, Holds, inl, inr}
 use Rattle.lit_solve.proofs.Words.{List, Rows, split_less, subst, sym, ℕ, ◌≡◌, ◌≢◌, ◌⊎◌}
-use Rattle.lit_solve.proofs.PruningLemmas.{source_known}
 use Rattle.lit_solve.proofs.RacingLemmas.{read_number}
 use Rattle.lit_solve.proofs.problem.Problem.before_each.Goals as goal
 
 -- what is wanted of an event and a source of the read
 abbrev Precedes : List Event → Rows → (r e w : ℕ) → Type 0
 Precedes events rows r e w = CanSynchronize (event_at events w) (event_at events r) × (Holds rows e w ⊎ (e ≡ w))
-
-pub can_synchronize-requires-clause-source : goal.can_synchronize-requires-clause-source
-can_synchronize-requires-clause-source c =
-    source_known (box_of c.args.self.now c.args.frame.now) c.requires.contained.is_box c.args.place c.in-Some.source c.requires.place
-    (c.loop-source.invariant.left c.in-Some.source c.in-Some.ensures.there)
 
 pub loop-source-smaller : goal.loop-source-smaller
 loop-source-smaller c = split_less c.loop-source.left c.in-Some.source c.in-Some.others c.in-Some.ensures
@@ -27,7 +21,9 @@ loop-source-preserved c = record {
     is_read = read_number (events_on c.args.self.now) c.args.place c.byte_read.result c.from-read.result c.from-read.ensures c.byte_read.ensures.at
 
     can : CanSynchronize (event_at (events_on c.args.self.now) c.in-Some.source) (event_at (events_on c.args.self.now) (byte_read_at (events_on c.args.self.now) c.args.place).0)
-    can = subst (λ (r : ℕ). CanSynchronize (event_at (events_on c.args.self.now) c.in-Some.source) (event_at (events_on c.args.self.now) r)) is_read (c.can_synchronize.ensures.0 c.if-not-can_synchronize.false)
+    can = subst (λ (r : ℕ). CanSynchronize (event_at (events_on c.args.self.now) c.in-Some.source) (event_at (events_on c.args.self.now) r)) is_read
+        ((c.synchronizing.ensures c.in-Some.source).0 (c.is_within.ensures.0 c.if-not-is_within.false c.in-Some.source
+        (c.loop-source.invariant.left c.in-Some.source c.in-Some.ensures.there))).1
 
     either : (e : ℕ) → HasEvent c.successors.result e ⊎ (e ≡ c.in-Some.source) → Holds c.args.ordered.now.rows e c.in-Some.source ⊎ (e ≡ c.in-Some.source)
     either e (inl h) = inl ((c.args.ordered.now.same.pairs e c.in-Some.source).0 ((c.successors.ensures e).0 h))

@@ -47,8 +47,8 @@ returns c w =
     let byte = (byte_read_at events place).1 in
     let hiding = c.intersection-left.result in
     let p = c.self.inside in
-    let is : IsProblem c.args.self.now p.candidates p.refused p.peers p.names.now p.guarded =
-    subst (λ (q : Litmus × ℕ). IsProblem q p.candidates p.refused p.peers p.names.now p.guarded) c.self.view_is c.self.invariant in
+    let is : IsProblem c.args.self.now p.candidates p.peers p.names.now p.guarded =
+    subst (λ (q : Litmus × ℕ). IsProblem q p.candidates p.peers p.names.now p.guarded) c.self.view_is c.self.invariant in
     let at : slice_get (byte_reads events) place ≡ Some (read, byte) = read_here events place c.requires.place in
     let same : c.from-read.result ≡ read = c.from-read.ensures
     ∙ ap (λ (q : ℕ × ℕ). q.0) c.byte_read.ensures.is in

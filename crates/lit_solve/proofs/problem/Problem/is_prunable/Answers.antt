@@ -1,24 +1,18 @@
-use Rattle.lit_solve.proofs.Words.{ap, box_of, byte_read_at, CanReadWhole, event_at, events_on, IsPrunable, subst, sym, ℕ, ◌∙◌, ◌≡◌}
-use Rattle.lit_solve.proofs.PruningLemmas.{between_out, later_out, tear_out}
+use Rattle.lit_solve.proofs.Words.{ap, box_of, byte_read_at, CanReadWhole, event_at, events_on, IsPrunable, subst, ℕ, ◌∙◌, ◌≡◌}
+use Rattle.lit_solve.proofs.PruningLemmas.{between_out, tear_out}
 use Rattle.lit_solve.proofs.problem.Problem.is_prunable.Goals as goal
-use Rattle.lit_solve.proofs.problem.Problem.is_prunable.Goals.{then-is_forced_later, else-is_forced_later}
 
 pub returns-then-is_forced_between : goal.returns-then-is_forced_between
 returns-then-is_forced_between c found =
     let events = events_on c.args.self.now in
     let box = box_of c.args.self.now c.args.frame.now in
-    let is = c.requires.contained in
     let read = (byte_read_at events c.args.place).0 in
     let byte = (byte_read_at events c.args.place).1 in
     let same : c.from-read.result ≡ read = c.from-read.ensures
     ∙ ap (λ (p : ℕ × ℕ). p.0) c.byte_read.ensures.is in
+    let between = c.is_forced_between.ensures.0 c.if-is_forced_between.true in
     subst (λ (r : ℕ). IsPrunable box r byte c.args.source) same
-    (elim c.if-is_forced_later.branch [
-      | then-is_forced_later w ↦ (let later = c.is_forced_later.ensures.0 w.if-is_forced_later.true in
-          later_out box c.args.frame.now is c.from-read.result byte c.args.source later.0 later.1)
-      | else-is_forced_later w ↦ (let between = w.is_forced_between.ensures.0 (sym w.value-is ∙ found) in
-          between_out box c.args.frame.now is c.from-read.result byte c.args.source between.0 between.1 between.2 between.3)
-    ])
+    (between_out box c.args.frame.now c.requires.contained c.from-read.result byte c.args.source between.0 between.1 between.2 between.3)
 
 pub returns-else-is_forced_between : goal.returns-else-is_forced_between
 returns-else-is_forced_between c found =

@@ -1,26 +1,15 @@
 use Rattle.lit_solve.proofs.Words.{◌<◌, ◌∙◌, ◌≡◌, ◌≤◌, ap, AreEventsIn, ArePeers, arith, below_more, BYTE_READ_LIMIT, byte_reads}
-use Rattle.lit_solve.proofs.Words.{combinations_of, common_steps, Event, events_on, IsCandidate, IsLitmus, IsRefusedOn, length}
+use Rattle.lit_solve.proofs.Words.{combinations_of, common_steps, Event, events_on, IsCandidate, IsLitmus, length}
 use Rattle.lit_solve.proofs.Words.{length-set, List, Litmus, names_of, nat_tests, not, or_parts, path_in, slice_get, slice_get_within, Some}
 use Rattle.lit_solve.proofs.Words.{subst, sym, ℕ}
 use Rattle.lit_solve.proofs.CandidateLemmas.{sets_more}
 use Rattle.lit_solve.proofs.PruningLemmas.{as_many}
 use Rattle.lit_solve.proofs.problem.Problem.open.Goals as goal
 
-pub candidates_of-all-requires : goal.candidates_of-all-requires
-candidates_of-all-requires c =
+pub candidates_of-requires : goal.candidates_of-requires
+candidates_of-requires c =
     let all = as_many (events_on c.enter-combination.result) c.byte_reads-place-end.result.now c.byte_reads-place-end.ensures in
     omega (arith, c.loop-place-test.true, all)
-
-pub refused_among-requires-clause-entered : goal.refused_among-requires-clause-entered
-refused_among-requires-clause-entered c = subst (λ (p : Litmus × ℕ). p.1 < length (combinations_of p.0)) (sym c.enter-combination.ensures) c.requires
-
-pub refused_among-requires-clause-place : goal.refused_among-requires-clause-place
-refused_among-requires-clause-place c =
-    let all = as_many (events_on c.enter-combination.result) c.byte_reads-place-end.result.now c.byte_reads-place-end.ensures in
-    omega (arith, c.loop-place-test.true, all)
-
-pub refused_among-requires-clause-known : goal.refused_among-requires-clause-known
-refused_among-requires-clause-known c w there = ((c.candidates_of-all.ensures w).0 there).known
 
 pub loop-place-preserved : goal.loop-place-preserved
 loop-place-preserved c =
@@ -31,16 +20,9 @@ loop-place-preserved c =
     c.events.ensures.value c.events.ensures.sound.few_reads in
     let inside : place < BYTE_READ_LIMIT = omega (arith, few, all, c.loop-place-test.true) in
     let was = c.loop-place.invariant in record {
-      len = length-set c.loop-place.candidates place c.candidates_of-all.result ∙ was.len;
-      refused_len = length-set c.loop-place.refused place c.refused_among.result ∙ was.refused_len;
-      all = sets_more (byte_reads events) (λ p w. IsCandidate events p.0 p.1 w) c.loop-place.candidates place c.candidates_of-all.result
-          (omega (arith, inside, was.len)) was.all c.candidates_of-all.ensures;
-      refused = sets_more (byte_reads events) (λ p w. IsCandidate events p.0 p.1 w × IsRefusedOn c.enter-combination.result p.0 p.1 w)
-          c.loop-place.refused place c.refused_among.result (omega (arith, inside, was.refused_len)) was.refused
-          (λ w. (
-            (λ h. let parts = (c.refused_among.ensures w).0 h in ((c.candidates_of-all.ensures w).0 parts.0, parts.1)),
-            (λ h. (c.refused_among.ensures w).1 ((c.candidates_of-all.ensures w).1 h.0, h.1)),
-          ));
+      len = length-set c.loop-place.candidates place c.candidates_of.result ∙ was.len;
+      all = sets_more (byte_reads events) (λ p w. IsCandidate events p.0 p.1 w) c.loop-place.candidates place c.candidates_of.result
+          (omega (arith, inside, was.len)) was.all c.candidates_of.ensures;
     }
 
 pub loop-agent-preserved : goal.loop-agent-preserved
@@ -63,7 +45,6 @@ invariant_of-result c =
       known = subst (λ (p : Litmus × ℕ). p.1 < length (combinations_of p.0)) (sym entered) c.requires;
       sound = subst (λ (es : List Event). AreEventsIn c.enter-combination.result.0.bytes es) same c.events.ensures.sound;
       all = λ k r b w at. c.loop-place.invariant.all k r b w (done k r b at) at;
-      by_guards = λ k r b w at. c.loop-place.invariant.refused k r b w (done k r b at) at;
       same_range = subst (λ (es : List Event). ArePeers es c.peers_of-peers.result) same c.peers_of-peers.ensures;
       named = c.names.ensures.value ∙ ap (λ (p : Litmus × ℕ). names_of p.0) (sym entered);
       few_names = c.names.ensures.few;

@@ -9,12 +9,6 @@ returns-then-has_false_unwritten-clause-none c x is =
     c.refuted_boxes_have_no_completion.ensures (box_with c.args.self.now c.args.domains.now) x c.requires (inr (inr (inr (inl
     (c.has_false_unwritten.ensures.0 c.if-has_false_unwritten.true))))) is
 
-pub returns-then-has_empty-clause-none : goal.returns-then-has_empty-clause-none
-returns-then-has_empty-clause-none c x is =
-    let left = c.consistent-domains in
-    c.refuted_boxes_have_no_completion.ensures (box_with c.args.self.now left.result) x left.ensures.is_box
-    (inr (inl (c.has_empty.ensures.0 c.if-has_empty.true))) (left.ensures.prunes.retained x is)
-
 pub can_fill_each-requires-clause-is_box : goal.can_fill_each-requires-clause-is_box
 can_fill_each-requires-clause-is_box c = (c.propagate.ensures.settled c.if-propagate.true).exact.contained.is_box
 
@@ -29,7 +23,7 @@ pub returns-else-propagate-clause-none : goal.returns-else-propagate-clause-none
 returns-else-propagate-clause-none c x is =
     let Completes : List EventSet → Type 0 = λ domains. IsCompletion (box_with c.args.self.now domains) x in
     let begun : IsCompletion (box_of c.args.self.now c.unsettled-frame.result) x =
-    subst Completes (sym c.unsettled-frame.ensures.domains) (c.consistent-domains.ensures.prunes.retained x is) in
+    subst Completes (sym c.unsettled-frame.ensures.domains) (c.in_ok-domains.ensures.prunes.retained x is) in
     elim c.else-propagate.branch [
       | else-propagate-via-then-propagate+else-can_fill_each w ↦
           let is_box = (c.propagate.ensures.settled w.if-propagate.true).exact.contained.is_box in

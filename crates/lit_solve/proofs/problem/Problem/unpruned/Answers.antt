@@ -1,6 +1,6 @@
-use Rattle.lit_solve.proofs.Words.{arith, box_of, byte_read_at, cases_eq, events_on, get_or, HasEvent, HasSource, Holds, inl, inr, IsCoherentRead}
-use Rattle.lit_solve.proofs.Words.{IsPrunable, no_events, split_less, subst, sym, ℕ}
-use Rattle.lit_solve.proofs.PruningLemmas.{coherent_still, in_rest, incoherent_out, source_known}
+use Rattle.lit_solve.proofs.Words.{ap, arith, box_of, byte_read_at, cases_eq, event_or_not, events_on, get_or, HasEvent, HasSource, Holds, inl, inr, IsCoherentRead}
+use Rattle.lit_solve.proofs.Words.{IsPrunable, no_events, split_less, subst, sym, ℕ, ◌∙◌, ◌≡◌}
+use Rattle.lit_solve.proofs.PruningLemmas.{coherent_still, in_rest, incoherent_out, later_out, source_known}
 use Rattle.lit_solve.proofs.problem.Problem.unpruned.Goals as goal
 use Rattle.lit_solve.proofs.problem.Problem.unpruned.Goals.{After-difference-coherent}
 
@@ -30,11 +30,23 @@ returns-then-is_some-clause-coherent c = still_coherent (goal.at.returns-then-is
 
 pub loop-source-init : goal.loop-source-init
 loop-source-init c =
-    let at = (goal.at.loop-source-init c).After-difference-coherent in record {
-      rest = λ w there. ((c.difference-coherent.ensures w).0 there).0;
-      rest_coherent = still_coherent at;
+    let at = (goal.at.loop-source-init c).After-difference-coherent in
+    let box = box_of c.args.self.now c.args.frame.now in
+    let read = byte_read_at (events_on c.args.self.now) c.args.place in
+    let same : c.from-read.result ≡ read.0 = c.from-read.ensures
+    ∙ ap (λ (p : ℕ × ℕ). p.0) c.byte_read.ensures.is in
+    let is_later : (w : ℕ) → HasEvent c.intersection-later.result w → IsPrunable box read.0 read.1 w = λ w there.
+    let both = (c.intersection-later.ensures w).0 there in
+    subst (λ (r : ℕ). IsPrunable box r read.1 w) same
+    (later_out box c.args.frame.now c.requires.contained c.from-read.result read.1 w ((c.synchronizing.ensures w).0 both.1).1
+    ((c.successors-after.ensures w).0 both.0)) in record {
+      rest = λ w there. ((c.difference-coherent.ensures w).0 ((c.difference-rest.ensures w).0 there).0).0;
+      rest_coherent = λ w there. still_coherent at w ((c.difference-rest.ensures w).0 there).0;
       within = λ w there. absurd (c.new-left.ensures.empty w there);
-      prunable = λ w there gone _. incoherent_gone at w there gone;
+      prunable = λ w there gone _. elim (event_or_not c.intersection-later.result w) [
+        | inl later ↦ is_later w later
+        | inr not_later ↦ incoherent_gone at w there (λ yet. gone ((c.difference-rest.ensures w).1 (yet, not_later)))
+      ];
       coherent = λ w there. absurd (c.new-left.ensures.empty w there);
     }
 

@@ -1,8 +1,8 @@
 use Rattle.lit_search.proofs.Words.{IfOk-weaker, in_none, in_range, IsReport, Litmus, Report, subst, sym, ◌∙◌}
-use Rattle.lit_search.proofs.searching.search_range.Goals as goal
+use Rattle.lit_search.proofs.searching.search_range_with.Goals as goal
 
 pub returns : goal.returns
-returns c =
+returns g c =
     let taken = c.in_ok-take.ensures.taken in_none c.new-collector.ensures.taken in
     let reported = subst (λ (t : Litmus). IsReport t (in_range c.args.from c.args.to) c.take.new.self.report)
     (c.in_ok-take.ensures.test ∙ c.new-collector.ensures.test) taken.reported in
