@@ -13,11 +13,11 @@ pub loop-place-preserved : goal.loop-place-preserved
 loop-place-preserved g c =
     gained_more c.laws_below.ensures c.args.problem.now c.args.from c.args.to c.boxes_of-boxes.result c.boxes_of-boxes.ensures
     c.loop-place.place (omega (arith, c.loop-place-test.true, c.len-place-end.ensures)) c.put.new.domains c.put.ensures.exact
-    c.args.table.now c.loop-place.table c.outcomes_and_race.new.table c.args.mark c.loop-place.race c.in_ok-outcomes_and_race.field-0
-    c.loop-place.invariant c.outcomes_and_race.ensures.added c.in_ok-outcomes_and_race.ensures.whole c.in_ok-outcomes_and_race.ensures.race
+    c.args.table.now c.loop-place.table c.outcomes_and_race.new.table c.args.mark c.loop-place.race c.in_ok-race.race
+    c.loop-place.invariant c.outcomes_and_race.ensures.added c.in_ok-race.ensures.whole c.in_ok-race.ensures.race
 
-pub returns-in_err-outcomes_and_race-clause-goes_on : goal.returns-in_err-outcomes_and_race-clause-goes_on
-returns-in_err-outcomes_and_race-clause-goes_on g c =
+pub returns-in_err-race-clause-goes_on : goal.returns-in_err-race-clause-goes_on
+returns-in_err-race-clause-goes_on g c =
     goes_more c.args.table.now c.loop-place.table c.outcomes_and_race.new.table c.loop-place.invariant.goes_on
     (record { added = c.outcomes_and_race.ensures.added.added; is = c.outcomes_and_race.ensures.added.goes_on })
 
