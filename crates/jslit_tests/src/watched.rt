@@ -1,6 +1,7 @@
 //! What a watch sees of a run: as many workers and pieces as the run is told, each piece entered once.
 
 use super::data::independent_reads::INDEPENDENT_READS;
+use super::workers::INDEPENDENT_READS_QUICK;
 use jslit::{Counted, Options, Watch, run_watched};
 use lit_share::{CUT_LIMIT, Gate, WORKER_LIMIT};
 use std::alloc::AllocGlobal;
@@ -86,7 +87,7 @@ impl Watch for Counting {
     }
 }
 
-/// That so many workers, with this cut, enter so many pieces, each once, and that these workers all come.
+/// That so many workers, with this cut, enter so many pieces, each once, that these workers all come, and that they answer as one does.
 fn enters(
     rt: &(impl Threads + Sync + Abort + AllocGlobal),
     workers: usize,
@@ -111,6 +112,12 @@ fn enters(
     let mut output = Counted::new(Vec::new(alloc));
     let answered = run_watched(rt, alloc, &mut input, &mut output, options, &watch, passes);
     assert!(rt; answered.is_ok());
+    let report = if quick {
+        INDEPENDENT_READS_QUICK
+    } else {
+        INDEPENDENT_READS.1
+    };
+    assert_eq!(rt; output.into_inner().as_slice(), report.as_bytes());
     let mut once_each = 0u64;
     for piece in 0..pieces.min(16) {
         once_each |= 1u64.wrapping_shl(piece as u32 * 4);
