@@ -98,4 +98,9 @@ impl<C: Clock + Sync, E: Write + Send + Drop> Watch for Progress<'_, C, E> {
             let _ = terminal.flush();
         }
     }
+
+    /// Not before a line is due.
+    fn follows_pieces(&self) -> bool {
+        self.seconds() >= QUIET
+    }
 }
