@@ -11,7 +11,7 @@ use std::alloc::{AllocError, Global};
 use std::sync::atomic::{AtomicU64, Ordering};
 
 /// How many steps down the attempt may make.
-const FEW_STEPS: u64 = 1_000;
+const FEW_STEPS: u64 = 10_000;
 
 /// A heartbeat that ends a search after a few steps.
 #[derive(Drop)]
