@@ -67,8 +67,8 @@ impl<'p> Collector<'p> {
 
     /// Takes the choices with numbers from `from` up to and without `to` besides those taken so far, which have lesser numbers: `from` is
     /// at least `end()` and at most `to`, and `to` at most `total()`. Answers `SearchFault::OutOfMemory` where a growth was refused or the
-    /// heartbeat ended the search, and no other fault: its test, `end()` and its report are then as before, so that it may take the same choices again, or others, or give
-    /// the report. Memory that the call took may stay with it until it is dropped.
+    /// heartbeat ended the search, and no other fault: its test, `end()` and its report are then as before, so that it may take the same
+    /// choices again, or others, or give the report. Memory that the call took may stay with it until it is dropped.
     pub fn take<H: Heartbeat>(
         &mut self,
         heartbeat: &H,
