@@ -2,7 +2,7 @@
 
 mod alone;
 mod answering;
-mod attempt;
+mod few_steps;
 mod cutting;
 pub(crate) mod printing;
 pub(crate) mod workers;

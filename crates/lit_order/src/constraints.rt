@@ -1,6 +1,6 @@
 //! The constraints on a memory-order: precedences, and forbidden triples.
 
-ghost use Rattle.std.specs.Prelude.{◌≡◌, ◌⊎◌, ℕ, ◌<◌, ◌≤◌, ◌↔◌, IsTrue};
+ghost use Rattle.std.specs.Prelude.{◌≡◌, ◌⊎◌, ℕ, ◌<◌, ◌≤◌, ◌↔◌, IsTrue, MatchOption};
 ghost use Rattle.lit_paths.specs.declared.limits.TheConstants.{EVENT_LIMIT};
 ghost use Rattle.lit_rel.specs.Between.{Forbids};
 ghost use Rattle.lit_rel.specs.EventSet.{HasEvent};
@@ -45,12 +45,15 @@ pub(crate) struct Constraints<'a> {
     /// From each event to the events that come before it.
     converse: &'a Rows,
     between: &'a Between,
+    /// The events that may not stand between some source and its read.
+    kept: EventSet,
     ghost same: { rows_len converse.now ≡ between.now.len },
     ghost few: { between.now.len ≤ EVENT_LIMIT },
+    ghost all: { (w r v : ℕ) → Forbids between.now w r v → HasEvent kept v },
 }
 
 impl<'a> Constraints<'a> {
-    ghost use Rattle.lit_order.specs.Internal.Beginning.{CanStandNext};
+    ghost use Rattle.lit_order.specs.Internal.Beginning.{CanStandNext, IsNext};
     ghost use Rattle.lit_order.specs.Internal.Constrained.{constrained_len, ComesBefore, MayNotStand};
 
     /// The constraints of a relation, given by its converse, and of forbidden triples, both on the same events.
@@ -60,7 +63,15 @@ impl<'a> Constraints<'a> {
         ensures pairs { (a e : ℕ) → ComesBefore result a e ↔ Holds converse.now e a }
         ensures triples { (w r v : ℕ) → MayNotStand result w r v ↔ Forbids between.now w r v }
     {
-        Constraints { converse, between }
+        let mut kept = EventSet::new();
+        for pair in between.pairs() {
+            kept = kept.union(pair.others);
+        }
+        Constraints {
+            converse,
+            between,
+            kept,
+        }
     }
 
     /// How many events there are.
@@ -78,6 +89,15 @@ impl<'a> Constraints<'a> {
         self.between
     }
 
+    /// Whether the forbidden triples let an event, below `len()`, stand next after the placed events.
+    fn allows(&self, event: usize, placed: EventSet) -> bool
+        requires { event < constrained_len self.now }
+        ensures { IsTrue result ↔ ((w r : ℕ) → MayNotStand self.now w r event → HasEvent placed w → (r ≡ event) ⊎ HasEvent placed r) }
+    {
+        // Most events are in no triple.
+        !self.kept.contains(event) || allows(self.between, event, placed)
+    }
+
     /// Whether an event, below `len()`, can stand next after the placed events: it is not placed, every event that comes
     /// before it is, and no forbidden triple has it between a source and its read.
     pub(crate) fn can_stand_next(&self, event: usize, placed: EventSet) -> bool
@@ -86,6 +106,22 @@ impl<'a> Constraints<'a> {
     {
         !placed.contains(event)
             && self.converse.successors(event).is_within(placed)
-            && allows(self.between, event, placed)
+            && self.allows(event, placed)
+    }
+
+    /// The least event that can stand next after the placed events; `None` if none can.
+    pub(crate) fn next_event(&self, placed: EventSet) -> Option<usize>
+        ensures { MatchOption result
+            ((e : ℕ) → e < constrained_len self.now → ¬ CanStandNext (ComesBefore self.now) (MayNotStand self.now) (HasEvent placed) e)
+            (λ event. IsNext (constrained_len self.now) (ComesBefore self.now) (MayNotStand self.now) (HasEvent placed) event) }
+    {
+        let mut left = EventSet::below(self.len()).difference(placed);
+        'next: while let Some((event, others)) = left.split_first() {
+            if self.can_stand_next(event, placed) {
+                return Some(event);
+            }
+            left = others;
+        }
+        None
     }
 }

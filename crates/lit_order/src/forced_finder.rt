@@ -64,15 +64,11 @@ fn extend_greedily(order: &mut Order, placed: EventSet, constraints: &Constraint
     if order.len() == constraints.len() {
         return true;
     }
-    let mut left = EventSet::below(constraints.len()).difference(placed);
-    'extending: while let Some((event, others)) = left.split_first() {
-        if constraints.can_stand_next(event, placed) {
-            order.push(event as u8);
-            return extend_greedily(order, placed.with(event), constraints);
-        }
-        left = others;
-    }
-    false
+    let Some(event) = constraints.next_event(placed) else {
+        return false;
+    };
+    order.push(event as u8);
+    extend_greedily(order, placed.with(event), constraints)
 }
 
 /// Makes the prefix of an order, whose events are those in `placed`, the least order with that prefix, and says whether

@@ -175,7 +175,7 @@ module _ (box : Box) where
             let at : slice_get (byte_reads (box_events box)) k ≡ Some read = slice_get-get_or (byte_reads (box_events box)) k (0, 0) within in
             absurd (some (k, within, λ w h. none w (is_box.candidates k read.0 read.1 w at h).known h))
 
-    some_from : (many k : ℕ) → k + many ≡ length (byte_reads (box_events box)) → (sources : List ℕ) × LieFrom box k sources
+    pub some_from : (many k : ℕ) → k + many ≡ length (byte_reads (box_events box)) → (sources : List ℕ) × LieFrom box k sources
     some_from zero k all = ([], record { one_each = all; within = λ i w at. absurd (none-some w at) })
     some_from (suc many) k all =
         let here = picked k (omega arith) in

@@ -5,8 +5,10 @@ pub mod FrameLemmas
 pub mod FillLemmas
 pub mod TogetherLemmas
 pub mod DataRaceLemmas
+pub mod OneByteLemmas
 pub mod ReadByteLemmas
 pub mod FillingLemmas
+pub mod PeerLemmas
 pub mod PruningLemmas
 pub mod EffectLemmas
 pub mod OpeningLemmas

@@ -66,51 +66,25 @@ pub source_known : (box : Box) → IsBox box → (k w : ℕ) → k < length (byt
 source_known box is k w inside there = (is.candidates k (byte_read_at (box_events box) k).0 (byte_read_at (box_events box) k).1 w (read_here (box_events box) k inside) there).known
 
 -- ---- coherent reads
--- The candidates of a byte of read r that are before r; and the events after r, with those before some such candidate.
-module _ (events : List Event) (rows : Rows) (len : rows_len rows ≡ length events) (r b : ℕ) (hiding incoherent : EventSet)
-    (hiding_is : (v : ℕ) → HasEvent hiding v ↔ (IsCandidate events r b v × Holds rows v r))
-    (is : (w : ℕ) → HasEvent incoherent w ↔ (Holds rows r w ⊎ ((v : ℕ) × HasEvent hiding v × Holds rows w v)))
-    (acyclic : (e : ℕ) → ¬ Holds rows e e) (w : ℕ) where
+-- by the candidates of a byte of read r that are before r
+module _ (events : List Event) (rows : Rows) (len : rows_len rows ≡ length events) (r b : ℕ) (earlier : EventSet)
+    (earlier_is : (v : ℕ) → HasEvent earlier v ↔ (IsCandidate events r b v × Holds rows v r)) (acyclic : (e : ℕ) → ¬ Holds rows e e) (w : ℕ) where
   candidate : (v : ℕ) → Hides events (Holds rows) r b w v → IsCandidate events r b v
   candidate v hides = grind arith
 
-  coherent_outside : ¬ HasEvent incoherent w → IsCoherentRead events (Holds rows) r b w
-  coherent_outside outside = record {
-    not_later = λ later. outside ((is w).1 (inl later));
-    not_hidden = λ v hides. outside ((is w).1 (inr (v, (hiding_is v).1 (candidate v hides, hides.before_read), hides.after_source)));
-  }
-
-  -- these are the events with which the byte read is not coherent
-  pub incoherent_are : HasEvent incoherent w ↔ ¬ IsCoherentRead events (Holds rows) r b w
-  incoherent_are = (
-    (λ there coherent. elim ((is w).0 there) [
-      | inl later ↦ coherent.not_later later
-      | inr hidden ↦ (let v = hidden.0 in
-          let its = (hiding_is v).0 hidden.1 in
-          coherent.not_hidden v
-          (record { writes = its.0.writes; in_range = its.0.in_range; after_source = hidden.2; before_read = its.1 }))
-    ]),
-    (λ incoherent_there. elim (event_or_not incoherent w) [
-      | inl there ↦ there
-      | inr outside ↦ absurd (incoherent_there (coherent_outside outside))
-    ]),
+  pub coherent_exactly : (((v : ℕ) → HasEvent earlier v → ¬ Holds rows w v) × ¬ Holds rows r w) ↔ IsCoherentRead events (Holds rows) r b w
+  coherent_exactly = (
+    (λ h. record {
+      not_later = h.1;
+      not_hidden = λ v hides. h.0 v ((earlier_is v).1 (candidate v hides, hides.before_read)) hides.after_source;
+    }),
+    (λ coherent. (
+      (λ v there after.
+          let its = (earlier_is v).0 there in
+          coherent.not_hidden v (record { writes = its.0.writes; in_range = its.0.in_range; after_source = after; before_read = its.1 })),
+      coherent.not_later,
+    )),
   )
-
--- a byte read that is not incoherent with a source is coherent with it
-pub coherent_still : (events : List Event) (before : ℕ → ℕ → Type 0) (r b w : ℕ) → ¬ ¬ IsCoherentRead events before r b w
-    → IsCoherentRead events before r b w
-coherent_still events before r b w never = record {
-  not_later = λ later. never (λ coherent. coherent.not_later later);
-  not_hidden = λ v hides. never (λ coherent. coherent.not_hidden v hides);
-}
-
--- what a set lost is in the set that was taken away
-pub in_rest : (all out rest : EventSet) → ((w : ℕ) → HasEvent rest w ↔ (HasEvent all w × ¬ HasEvent out w)) → (w : ℕ) → HasEvent all w
-    → ¬ HasEvent rest w → HasEvent out w
-in_rest all out rest rest_is w there gone = elim (event_or_not out w) [
-  | inl is ↦ is
-  | inr other ↦ absurd (gone ((rest_is w).1 (there, other)))
-]
 
 -- ---- sources that can be pruned
 -- what is so of the frame's relations is so of those of its box

@@ -56,15 +56,16 @@ impl Problem<'_> {
         None
     }
 
-    /// An observed byte read that can force something and whose sources store several bytes.
-    fn forcing_observed(&self, frame: &Frame) -> Option<usize>
+    /// A byte read that one of the registers from `first` on observes, that can force something, and whose sources store several bytes.
+    fn forcing_observed(&self, frame: &Frame, first: usize) -> Option<usize>
         requires { IsSettled (box_of self.now frame.now) frame.now }
         ensures { IfSome result (λ k. (k < length (byte_reads (events_on self.now))) × IsUndecidedAt (box_of self.now frame.now) k
             × IsObservedAt (box_of self.now frame.now) k) }
     {
         // For the prover: a combination has few events.
         let _events = self.events();
-        for name in self.names {
+        for i in first..self.names.len() {
+            let name = self.names[i];
             if let Some(read) = self.observed_read(name.0, name.1) {
                 if let Some(place) = self.forcing_byte(frame, read as u8) {
                     return Some(place);
@@ -82,7 +83,8 @@ impl Problem<'_> {
         ensures observed { IsObservation (box_of self.now frame.now) values.new.items result }
     {
         let open = self.observe(&frame.domains, values)?;
-        Some(self.forcing_observed(frame).unwrap_or(open))
+        // The values of the registers before are decided.
+        Some(self.forcing_observed(frame, values.len()).unwrap_or(open))
     }
 
     /// Records the one outcome of a frame, if the table lacks it and the frame has a completion. Answers whether it found that the frame

@@ -19,7 +19,8 @@ use lit_rel::{EventSet, TwoWayRows};
 use lit_valid::laws::laws_below;
 
 impl Problem<'_> {
-    /// The events that each source in the domain at a place is, or comes after by a relation, if each of them synchronizes with the read.
+    /// The events that each source in the domain at a place is, or comes after by a relation, if each of them synchronizes with the read:
+    /// of these those that the relation does not put before the read.
     fn before_each(&self, frame: &Frame, ordered: &TwoWayRows, place: usize) -> EventSet
         requires place { place < length (byte_reads (events_on self.now)) }
         requires contained { IsContained (box_of self.now frame.now) frame.now }
@@ -30,13 +31,17 @@ impl Problem<'_> {
             × (Holds ordered.now.rows e w ⊎ (e ≡ w)) }
     {
         let read = usize::from(self.byte_read(place).read);
-        let mut before = EventSet::below(self.events().len());
+        let there = ordered.converse.successors(read);
+        let mut before = EventSet::below(self.events().len()).difference(there);
         let mut left = frame.domains[place];
         if !left.is_within(self.synchronizing(read)) {
             return EventSet::new();
         }
         while let Some((source, others)) = left.split_first() {
             before = before.intersection(ordered.converse.successors(source).with(source));
+            if before.is_empty() {
+                return before;
+            }
             left = others;
         }
         before
@@ -50,8 +55,7 @@ impl Problem<'_> {
         ensures sound { IsOrderOfBox (box_of self.now frame.now) ordered.new.rows }
     {
         let read = usize::from(self.byte_read(place).read);
-        let before = self.before_each(frame, &*ordered, place);
-        let mut left = before.difference(ordered.converse.successors(read));
+        let mut left = self.before_each(frame, &*ordered, place);
         let adds = !left.is_empty();
         while let Some((event, others)) = left.split_first() {
             ordered.close_with(event, read);
@@ -101,9 +105,16 @@ impl Problem<'_> {
             → ¬ IsCoherentRead (events_on self.now) (Holds before.now.rows) (byte_read_at (events_on self.now) place).0
             (byte_read_at (events_on self.now) place).1 w }
     {
-        // For the prover: the place is one of the array of domains.
-        let _reads = self.reads();
-        !frame.domains[place].is_within(self.incoherent(before, place))
+        // For the prover: a combination has few events.
+        let _events = self.events();
+        let mut left = self.sources_left(frame, place);
+        while let Some((source, others)) = left.split_first() {
+            if self.is_coherent(before, place, source) {
+                return true;
+            }
+            left = others;
+        }
+        false
     }
 
     /// Whether what all sources in the domains of a frame order shows that it is infeasible: it has a cycle, or no source of some byte

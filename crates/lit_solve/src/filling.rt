@@ -124,16 +124,15 @@ impl Problem<'_> {
         }
     }
 
-    /// What the bytes of a read compose once its byte read at a place has this source.
-    pub(crate) fn with_byte(&self, _read: u8, place: usize, taken: Taken, source: usize) -> Taken
+    /// What the bytes of the read at a place compose once the byte read there has this source.
+    pub(crate) fn with_byte(&self, place: usize, taken: Taken, source: usize) -> Taken
         requires place { place < length (byte_reads (events_on self.now)) }
-        requires read { (byte_read_at (events_on self.now) place).0 ≡ _read }
         requires source { source < length (events_on self.now) }
-        requires room { HasRoom (events_on self.now) _read place taken }
+        requires room { HasRoom (events_on self.now) (byte_read_at (events_on self.now) place).0 place taken }
         ensures value { result.value ≡ taken.value
             + 256 ^ taken.bytes * payload_of (event_of (events_on self.now) source) (byte_read_at (events_on self.now) place).1 }
         ensures bytes { result.bytes ≡ taken.bytes + 1 }
-        ensures room { HasRoom (events_on self.now) _read (place + 1) result }
+        ensures room { HasRoom (events_on self.now) (byte_read_at (events_on self.now) place).0 (place + 1) result }
     {
         let unit = 256u32.pow(taken.bytes);
         Taken {
@@ -155,7 +154,7 @@ impl Problem<'_> {
         let Some(whole) = self.whole_with(read, taken.whole, source) else {
             return None;
         };
-        let next = self.with_byte(read, place, taken, source);
+        let next = self.with_byte(place, taken, source);
         Some(Taken { whole, ..next })
     }
 
@@ -229,7 +228,11 @@ impl Problem<'_> {
         ensures { IsTrue result ↔ CanFill (box_with self.now domains.now) read }
     {
         // For the prover: no event has more than four bytes.
-        let _events = self.events();
+        let events = self.events();
+        // Nothing tears a read of one byte, whatever its sources are.
+        if !self.guarded && event_at(events, usize::from(read)).size == 1 {
+            return true;
+        }
         self.fills_on(domains, read, self.first_place(read), Taken::nothing())
     }
 }

@@ -121,7 +121,12 @@ impl Problem<'_> {
         ensures { (v : ℕ) → HasEvent result v ↔ ((v < length (events_on self.now))
             × IsForbiddenBetween (events_on self.now) (Holds frame.now.happens_before.rows) source read v) }
     {
+        // Behind a source that synchronizes, that is each other such source, whatever comes before what.
+        let synchronizing = self.synchronizing(read);
         let events = self.events();
+        if synchronizing.contains(source) {
+            return synchronizing.difference(EventSet::new().with(source).with(read));
+        }
         let (before, peers) = (&frame.happens_before, &self.peers);
         others_between(events, source as u8, read as u8, before, peers)
     }

@@ -63,7 +63,7 @@ impl Problem<'_> {
             if self.has_other_byte(domains, place, source) {
                 return ReadValue::Open(place);
             }
-            taken = self.with_byte(read, place, taken, source);
+            taken = self.with_byte(place, taken, source);
             place += 1;
         }
         ReadValue::One(taken.value)

@@ -23,25 +23,22 @@ use lit_paths::event_at;
 use lit_rel::{EventSet, TwoWayRows, can_read_whole};
 
 impl Problem<'_> {
-    /// The events with which the byte read at a place would not be coherent (29.7.2), by an acyclic relation that orders the events: those
-    /// after the read, and those before a write of the byte that is before the read.
-    pub(crate) fn incoherent(&self, before: &TwoWayRows, place: usize) -> EventSet
+    /// Whether the byte read at a place is coherent (29.7.2) with a source, by an acyclic relation that orders the events. The source is an
+    /// event number.
+    pub(crate) fn is_coherent(&self, before: &TwoWayRows, place: usize, source: usize) -> bool
         requires place { place < length (byte_reads (events_on self.now)) }
+        requires source { source < length (events_on self.now) }
         requires len { rows_len before.now.rows ≡ length (events_on self.now) }
         requires acyclic { (e : ℕ) → ¬ Holds before.now.rows e e }
-        ensures { (w : ℕ) → HasEvent result w ↔ ¬ IsCoherentRead (events_on self.now) (Holds before.now.rows)
-            (byte_read_at (events_on self.now) place).0 (byte_read_at (events_on self.now) place).1 w }
+        ensures { IsTrue result ↔ IsCoherentRead (events_on self.now) (Holds before.now.rows)
+            (byte_read_at (events_on self.now) place).0 (byte_read_at (events_on self.now) place).1 source }
     {
         // For the prover: the place is one of the array of candidates.
         let _reads = self.reads();
         let read = usize::from(self.byte_read(place).read);
-        let mut incoherent = before.rows.successors(read);
-        let mut left = self.candidates[place].intersection(before.converse.successors(read));
-        while let Some((write, others)) = left.split_first() {
-            incoherent = incoherent.union(before.converse.successors(write));
-            left = others;
-        }
-        incoherent
+        let earlier = self.candidates[place].intersection(before.converse.successors(read));
+        let hiding = earlier.intersection(before.rows.successors(source));
+        hiding.is_empty() && !before.rows.holds(read, source)
     }
 
     /// Whether an event is forced between a source and a read though it may not stand there if the read has that source.
@@ -116,19 +113,38 @@ impl Problem<'_> {
         !others.is_empty() && can_read_whole(event_at(events, read), event_at(events, source))
     }
 
-    /// Whether the frame shows that no completion has this source, with which it is coherent and which is not forced after it, for the
-    /// byte read at a place. `whole` are given sources of the read from which it reads whole.
+    /// Whether the frame shows that no completion has this source, which is not forced after it, for the byte read at a place: if not, it is
+    /// coherent. `whole` are given sources of the read from which it reads whole. The frame's happens-before is acyclic.
     fn is_prunable(&self, frame: &Frame, place: usize, source: usize, whole: EventSet) -> bool
         requires place { place < length (byte_reads (events_on self.now)) }
         requires source { source < length (events_on self.now) }
         requires contained { IsContained (box_of self.now frame.now) frame.now }
         requires whole { (u : ℕ) → HasEvent whole u → ReadsWholeBy (events_on self.now) (GivenIn (box_of self.now frame.now))
             (byte_read_at (events_on self.now) place).0 u }
-        ensures { IsTrue result → IsPrunable (box_of self.now frame.now) (byte_read_at (events_on self.now) place).0
+        requires acyclic { (e : ℕ) → ¬ Holds frame.now.happens_before.rows e e }
+        ensures prunable { IsTrue result → IsPrunable (box_of self.now frame.now) (byte_read_at (events_on self.now) place).0
             (byte_read_at (events_on self.now) place).1 source }
+        ensures coherent { IsFalse result → IsCoherentRead (events_on self.now) (Holds frame.now.happens_before.rows)
+            (byte_read_at (events_on self.now) place).0 (byte_read_at (events_on self.now) place).1 source }
     {
         let read = usize::from(self.byte_read(place).read);
-        self.is_forced_between(frame, read, source) || self.would_tear(read, source, whole)
+        !self.is_coherent(&frame.happens_before, place, source)
+            || self.is_forced_between(frame, read, source)
+            || self.would_tear(read, source, whole)
+    }
+
+    /// The events that may have to be pruned where they are sources of a read: those that are forced before it, since only these can be
+    /// hidden or have another event forced in between, or all if it reads whole from `whole`.
+    fn suspects(&self, frame: &Frame, read: usize, whole: EventSet) -> EventSet
+        requires contained { IsContained (box_of self.now frame.now) frame.now }
+        requires read { read < length (events_on self.now) }
+        ensures { (w : ℕ) → Holds frame.now.forced.rows w read → HasEvent result w }
+    {
+        if whole.is_empty() {
+            frame.forced.converse.successors(read)
+        } else {
+            EventSet::below(self.events().len())
+        }
     }
 
     /// The sources in the domain of the byte read at a place that can't be pruned. The frame's happens-before is acyclic.
@@ -145,21 +161,23 @@ impl Problem<'_> {
     {
         // For the prover: a set has room for each event of a combination.
         let _events = self.events();
-        let coherent = frame.domains[place].difference(self.incoherent(
-            &frame.happens_before,
-            place,
-        ));
         // A given source is only asked for coherence. It can't be forced later than its read, nor an event that may not stand between
         // the two be forced there, since what is forced has no cycle; and whether the read is torn, its filling tells.
-        if self.given(frame, place).is_some() {
-            return coherent;
+        if let Some(source) = self.given(frame, place) {
+            if self.is_coherent(&frame.happens_before, place, source) {
+                return set_of(source);
+            }
+            return EventSet::new();
         }
         let read = usize::from(self.byte_read(place).read);
         let after = frame.forced.rows.successors(read);
         let later = after.intersection(self.synchronizing(read));
+        let out = later.union(frame.happens_before.rows.successors(read));
+        let open = frame.domains[place].difference(out);
         let whole = self.whole_sources(frame, place);
-        let mut left = EventSet::new();
-        let mut rest = coherent.difference(later);
+        let suspects = self.suspects(frame, read, whole);
+        let mut left = open.difference(suspects);
+        let mut rest = open.intersection(suspects);
         while let Some((source, others)) = rest.split_first() {
             if !self.is_prunable(frame, place, source, whole) {
                 left = left.with(source);

@@ -11,8 +11,8 @@ ghost use Rattle.jslit.specs.Internal.Answering.{HasWritten, HasWrittenSome, IsO
 ghost use Rattle.jslit.specs.Internal.Searching.{IsFirstChoice};
 
 use crate::engine::answering::{quick_report, report};
-use crate::engine::attempt::found_soon;
 use crate::engine::cutting::{cut_for_outcomes, cut_of};
+use crate::engine::few_steps::found_soon;
 use crate::engine::printing::Printer;
 use crate::fault::RunFault;
 use crate::watch::Watch;

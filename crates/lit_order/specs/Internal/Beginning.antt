@@ -31,6 +31,12 @@ pub record CanStandNext (before : ℕ → ℕ → Type 0) (forbidden : ℕ → �
   pub follows : (a : ℕ) → before a event → placed a
   pub whole : (w r : ℕ) → forbidden w r event → placed w → (r ≡ event) ⊎ placed r
 
+-- the least event below n that can stand next after the placed ones
+pub record IsNext (n : ℕ) (before : ℕ → ℕ → Type 0) (forbidden : ℕ → ℕ → ℕ → Type 0) (placed : ℕ → Type 0) (event : ℕ) : Type 0 where
+  pub known : event < n
+  pub can : CanStandNext before forbidden placed event
+  pub least : (e : ℕ) → e < event → ¬ CanStandNext before forbidden placed e
+
 -- no order has this prefix
 abbrev pub HasNoOrder : ℕ → (ℕ → ℕ → Type 0) → (ℕ → ℕ → ℕ → Type 0) → List ℕ → Type 0
 HasNoOrder n before forbidden start = (rest : List ℕ) → ¬ IsOrderOf n before forbidden (start ++ rest)

@@ -9,10 +9,10 @@ loop-event-init c =
     let box = box_of c.args.self.now c.args.frame.now in
     let read = byte_read_at (events_on c.args.self.now) c.args.place in record {
       sound = c.requires.sound;
-      known = λ e h. c.before_each-before.ensures.known e ((c.difference-left.ensures e).0 h).0;
+      known = λ e h. c.before_each-left.ensures.known e h;
       left = λ e h. ordered_before box c.args.place read.0 read.1 (read_here (events_on c.args.self.now) c.args.place c.requires.place)
           c.args.ordered.now.rows c.requires.sound e
-          (λ w there. c.before_each-before.ensures.before e w ((c.difference-left.ensures e).0 h).0 there);
+          (λ w there. c.before_each-left.ensures.before e w h there);
     }
 
 pub loop-event-smaller : goal.loop-event-smaller

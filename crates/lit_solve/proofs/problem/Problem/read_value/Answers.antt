@@ -1,4 +1,4 @@
-use Rattle.lit_solve.proofs.Words.{arith, box_with, event_at, events_on, false≢true, inl, inr, refl, ◌≤◌}
+use Rattle.lit_solve.proofs.Words.{arith, box_with, event_at, events_on, false≢true, HasRoom, inl, inr, refl, subst, sym, ℕ, ◌+◌, ◌≤◌}
 use Rattle.lit_solve.proofs.PruningLemmas.{source_known}
 use Rattle.lit_solve.proofs.ObservationLemmas.{composed_first, composed_last, composed_next}
 use Rattle.lit_solve.proofs.ReadByteLemmas.{none_later, room_first}
@@ -27,12 +27,16 @@ with_byte-taken-requires-clause-source c =
     source_known (box_with c.args.self.now c.args.domains.now) c.requires.is_box c.bytes.place c.in-Some.source
     (c.bytes-test.ensures.of.0 refl).0 c.in-Some.ensures.there
 
+pub with_byte-taken-requires-clause-room : goal.with_byte-taken-requires-clause-room
+with_byte-taken-requires-clause-room c =
+    subst (λ (r : ℕ). HasRoom (events_on c.args.self.now) r c.bytes.place c.bytes.taken) (sym (c.bytes-test.ensures.of.0 refl).1) c.bytes.invariant.room
+
 pub bytes-preserved : goal.bytes-preserved
 bytes-preserved c =
     let is = c.bytes-test.ensures.of.0 refl in
     let next = c.with_byte-taken.ensures in
     record {
-      room = next.room;
+      room = subst (λ (r : ℕ). HasRoom (events_on c.args.self.now) r (c.bytes.place + 1) c.with_byte-taken.result) is.1 next.room;
       composed =
           composed_next (box_with c.args.self.now c.args.domains.now) c.args.read c.bytes.place c.in-Some.source c.bytes.taken c.with_byte-taken.result is.0 is.1
           c.if-has_other_byte.ensures next.value next.bytes c.bytes.invariant.composed;

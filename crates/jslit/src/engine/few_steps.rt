@@ -1,5 +1,5 @@
-//! The attempt to find the report by the thread that calls, before workers share the choices. What ends within a few steps would take
-//! longer by several workers: each piece is searched for its outcomes anew.
+//! The search of all choices by the thread that calls, given up after some steps, before workers share the choices: what ends sooner
+//! mostly takes several workers longer, since each piece is searched for its outcomes anew (decision 63).
 
 ghost use Rattle.std.specs.Prelude.{length, IfSome};
 ghost use Rattle.lit_paths.specs.Choice.{choices_of};
@@ -10,7 +10,7 @@ use lit_search::{Found, Heartbeat, search_range_with};
 use std::alloc::{AllocError, Global};
 use std::sync::atomic::{AtomicU64, Ordering};
 
-/// How many steps down the attempt may make.
+/// How many steps down the search may make: some milliseconds, or tens of them where each propagates.
 const FEW_STEPS: u64 = 10_000;
 
 /// A heartbeat that ends a search after a few steps.
