@@ -1,8 +1,8 @@
--- Leaves: when a settled frame in which no open byte read can force anything has a completion.
+-- Leaves: when a frame at its fixpoint in which no open byte read can force anything has a completion.
 use Rattle.lit_solve.proofs.Words.{◌<◌, Any, AreCoherentSources, AreSourcesIn, Box, box_events, CanFill, coherent_read_by, Execution}
 use Rattle.lit_solve.proofs.Words.{Frame, Given, HappensBeforeIn, HasFalseGuardOn, HasLeastOrderIn, HasNoCompletion, HasOrder, HasSolution}
 use Rattle.lit_solve.proofs.Words.{Holds, IfNone, IfSome, IsBox, IsCompletion, IsFilled, IsForbiddenIn, IsIndependent, IsLeaf, IsOrderOf}
-use Rattle.lit_solve.proofs.Words.{IsSettled, length, List, None, Option, refl, Some, ℕ, ◌↔◌, ◌≡◌}
+use Rattle.lit_solve.proofs.Words.{IsFixpoint, length, List, None, Option, refl, Some, ℕ, ◌↔◌, ◌≡◌}
 use Rattle.lit_solve.proofs.FillLemmas.{sources_lie}
 
 -- what sources have to be so that they are a completion's
@@ -18,18 +18,18 @@ IsFilledReadByRead box =
     (sources : List ℕ) → IsBox box → IsLeaf box → AreCoherentSources box → ((e : ℕ) → ¬ HappensBeforeIn box e e) → AreSourcesIn box sources
     → ((x : Execution) × IsCompletion box x × (x.sources ≡ sources)) ↔ AreFilling box sources
 
-module _ (box : Box) (frame : Frame) (settled : IsSettled box frame) where
+module _ (box : Box) (frame : Frame) (fixpoint : IsFixpoint box frame) where
   -- its sources are coherent by what the box gives, and no event happens before itself by that
   pub coherent_sources : AreCoherentSources box
   coherent_sources k r b w at there =
-      coherent_read_by (box_events box) (Holds frame.happens_before.rows) (HappensBeforeIn box) settled.exact.before r b w (settled.coherent k r b w at there)
+      coherent_read_by (box_events box) (Holds frame.happens_before.rows) (HappensBeforeIn box) fixpoint.exact.before r b w (fixpoint.coherent k r b w at there)
 
   pub no_cycle : (e : ℕ) → ¬ HappensBeforeIn box e e
-  no_cycle e h = settled.acyclic e (Given h)
+  no_cycle e h = fixpoint.acyclic e (Given h)
 
   module _ (leaf : IsLeaf box) (law : IsFilledReadByRead box) where
     by_law : (sources : List ℕ) → AreSourcesIn box sources → ((x : Execution) × IsCompletion box x × (x.sources ≡ sources)) ↔ AreFilling box sources
-    by_law sources lie = law sources settled.exact.contained.is_box leaf coherent_sources no_cycle lie
+    by_law sources lie = law sources fixpoint.exact.contained.is_box leaf coherent_sources no_cycle lie
 
     -- what follows from a completion
     module _ (h : HasSolution box Any) where
@@ -52,8 +52,8 @@ module _ (box : Box) (frame : Frame) (settled : IsSettled box frame) where
         → IfSome found (λ _. IsIndependent box)
     independent_if None order least unwritten filled = least
     independent_if (Some a) order least unwritten filled = record {
-      is_box = settled.exact.contained.is_box;
-      some = settled.exact.contained.some;
+      is_box = fixpoint.exact.contained.is_box;
+      some = fixpoint.exact.contained.some;
       leaf = leaf;
       coherent = coherent_sources;
       acyclic = no_cycle;

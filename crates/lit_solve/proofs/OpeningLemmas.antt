@@ -3,7 +3,7 @@ use Rattle.lit_solve.proofs.Words.{[], ◌+◌, ◌<◌, arith, Box, box_events,
 use Rattle.lit_solve.proofs.Words.{EventSet, Execution, Frame, get_or_from_slice_get, Given, GivenIn, Grows-from, HappensBefore}
 use Rattle.lit_solve.proofs.Words.{HappensBeforeIn, HasAlone, HasEffect, HasEmptyDomain, HasEvent, HasSource, Holds, inl, inr, IsBox}
 use Rattle.lit_solve.proofs.Words.{IsCandidate, IsCoherentRead, IsCompletion, IsContained, IsCut, IsExact, IsForbiddenIn, IsForced-grow}
-use Rattle.lit_solve.proofs.Words.{IsForcedIn, IsSettled, IsSettledBelow, IsTransitive, length, Prunes, ReadsByteFrom, rows_len, slice_get}
+use Rattle.lit_solve.proofs.Words.{IsForcedIn, IsFixpoint, IsFixpointBelow, IsTransitive, length, Prunes, ReadsByteFrom, rows_len, slice_get}
 use Rattle.lit_solve.proofs.Words.{Some, subst, TakesFrom, TwoWayRows, ℕ, ◌↔◌, ◌≡◌, ◌⊎◌}
 use Rattle.lit_solve.proofs.DomainLemmas.{completion_at, domain_here, frame_at, pruned_at, pruned_is_box, pruned_within, source_other}
 use Rattle.lit_solve.proofs.FillLemmas.{before_added, forbidden_added}
@@ -49,7 +49,7 @@ module _ (box : Box) (place : ℕ) (set left : EventSet) (room : place < length 
   pub cut_on : (now : Box) → Prunes (pruned_at box place left) now → IsCut box place set now
   cut_on now on = grind (arith, common_steps, completion_taken, domain_here, left_within, pruned_within)
 
--- ---- a restricted domain that gives no source with an effect: what is settled stays so
+-- ---- a restricted domain that gives no source with an effect: a fixpoint stays one
 module _ (box : Box) (frame : Frame) (exact : IsExact box frame) (place : ℕ) (left : EventSet) (room : place < length box.domains)
     (within : (w : ℕ) → HasEvent left w → HasSource box place w) (is : IsContained (pruned_at box place left) (frame_at frame place left))
     (idle : (r b w : ℕ) → slice_get (byte_reads (box_events box)) place ≡ Some (r, b) → HasAlone (pruned_at box place left) place w → ¬ HasEffect (box_events box) w r) where
@@ -88,26 +88,26 @@ module _ (box : Box) (frame : Frame) (exact : IsExact box frame) (place : ℕ) (
     forced = λ a d h. exact.forced a d (forced_back a d h);
   }
 
-  pub settled_still : IsSettled box frame → IsSettled now (frame_at frame place left)
-  settled_still was = record {
+  pub fixpoint_still : IsFixpoint box frame → IsFixpoint now (frame_at frame place left)
+  fixpoint_still was = record {
     exact = exact_still;
     acyclic = λ e h. was.acyclic e (forced_back e e h);
     coherent = λ k r b w at there. was.coherent k r b w at ((pruned_within box place left room within).domains k w there);
   }
 
-  pub settled_below_still : (n : ℕ) → IsSettledBelow box frame n → IsSettledBelow now (frame_at frame place left) n
-  settled_below_still n was = record {
+  pub fixpoint_below_still : (n : ℕ) → IsFixpointBelow box frame n → IsFixpointBelow now (frame_at frame place left) n
+  fixpoint_below_still n was = record {
     exact = exact_still;
     acyclic = λ e h. was.acyclic e (forced_back e e h);
     coherent = λ k r b w below at there. was.coherent k r b w below at ((pruned_within box place left room within).domains k w there);
   }
 
--- settled at one place more, where each source is coherent
-pub settled_more : (box : Box) (frame : Frame) (place : ℕ) → IsSettledBelow box frame place
+-- at the fixpoint at one place more, where each source is coherent
+pub fixpoint_more : (box : Box) (frame : Frame) (place : ℕ) → IsFixpointBelow box frame place
     → ((w : ℕ) → HasSource box place w → IsCoherentRead (box_events box) (Holds frame.happens_before.rows)
     (byte_read_at (box_events box) place).0 (byte_read_at (box_events box) place).1 w)
-    → IsSettledBelow box frame (place + 1)
-settled_more box frame place was here = record {
+    → IsFixpointBelow box frame (place + 1)
+fixpoint_more box frame place was here = record {
   exact = was.exact;
   acyclic = was.acyclic;
   coherent = λ k r b w below at there. elim (below_or_last k place below) [

@@ -70,7 +70,7 @@ pub use Rattle.lit_solve.specs.Internal.Product.{IsChosen, IsListed, IsNumberBes
 pub use Rattle.lit_solve.specs.Internal.Pruning.{HasNoCompletion, Prunes, size_of}
 pub use Rattle.lit_solve.specs.Internal.ReadValues.{AddsFillings, AreFillings, HasValue, HaveEachValue, IsFilling}
 pub use Rattle.lit_solve.specs.Internal.Searching.{GoesWith, IsBranch}
-pub use Rattle.lit_solve.specs.Internal.Settled.{IsCut, IsSettled, IsSettledBelow, TakesFrom}
+pub use Rattle.lit_solve.specs.Internal.Fixpoint.{IsCut, IsFixpoint, IsFixpointBelow, TakesFrom}
 pub use Rattle.lit_solve.specs.Internal.SoundRange.{IsSoundRange}
 pub use Rattle.lit_solve.specs.Outcomes.{AddsEntries, AreNewEntries, HasEachOutcome, IsLeastEntry}
 pub use Rattle.lit_solve.specs.Prospect.{IsAskedAt, IsOutcomeProspect, IsUndecidedAt, IsValueOf, outcome_by}

@@ -3,7 +3,7 @@
 pub mod Frames
 pub mod Pruning
 pub mod Filling
-pub mod Settled
+pub mod Fixpoint
 pub mod Leaves
 pub mod ConditionValues
 pub mod Searching

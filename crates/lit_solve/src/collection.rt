@@ -12,7 +12,7 @@ ghost use Rattle.lit_solve.specs.declared.goal.Goal.TheVariants.{Any};
 ghost use Rattle.lit_solve.specs.Internal.Frames.{box_of};
 ghost use Rattle.lit_solve.specs.Internal.Pruning.{HasNoCompletion};
 ghost use Rattle.lit_solve.specs.Internal.Observation.{AreFirstValues, IsObservation, IsObservedAt};
-ghost use Rattle.lit_solve.specs.Internal.Settled.{IsSettled};
+ghost use Rattle.lit_solve.specs.Internal.Fixpoint.{IsFixpoint};
 ghost use Rattle.lit_solve.specs.Outcomes.{AddsEntries, HasEachOutcome};
 
 use crate::frame::Frame;
@@ -39,7 +39,7 @@ impl Problem<'_> {
     /// A byte read of a read that can force something and whose sources store several bytes.
     fn forcing_byte(&self, frame: &Frame, read: u8) -> Option<usize>
         requires read { read < length (events_on self.now) }
-        requires settled { IsSettled (box_of self.now frame.now) frame.now }
+        requires fixpoint { IsFixpoint (box_of self.now frame.now) frame.now }
         ensures { IfSome result (λ k. (k < length (byte_reads (events_on self.now))) × IsUndecidedAt (box_of self.now frame.now) k
             × ((byte_read_at (events_on self.now) k).0 ≡ read)) }
     {
@@ -58,7 +58,7 @@ impl Problem<'_> {
 
     /// A byte read that one of the registers from `first` on observes, that can force something, and whose sources store several bytes.
     fn forcing_observed(&self, frame: &Frame, first: usize) -> Option<usize>
-        requires { IsSettled (box_of self.now frame.now) frame.now }
+        requires { IsFixpoint (box_of self.now frame.now) frame.now }
         ensures { IfSome result (λ k. (k < length (byte_reads (events_on self.now))) × IsUndecidedAt (box_of self.now frame.now) k
             × IsObservedAt (box_of self.now frame.now) k) }
     {
@@ -77,7 +77,7 @@ impl Problem<'_> {
 
     /// As `observe`, but it prefers an observed byte read that can force something (decision 32).
     fn next_observed(&self, frame: &Frame, values: &mut Values) -> Option<usize>
-        requires settled { IsSettled (box_of self.now frame.now) frame.now }
+        requires fixpoint { IsFixpoint (box_of self.now frame.now) frame.now }
         requires first { AreFirstValues (box_of self.now frame.now) values.old.items }
         ensures first { AreFirstValues (box_of self.now frame.now) values.new.items }
         ensures observed { IsObservation (box_of self.now frame.now) values.new.items result }
@@ -88,25 +88,25 @@ impl Problem<'_> {
     }
 
     /// Records the one outcome of a frame, if the table lacks it and the frame has a completion. Answers whether it found that the frame
-    /// has none, or `doubt` where the table had the outcome. If `sure`, the frame has a completion.
+    /// has none, or `dead_end` where the table had the outcome. If `feasible`, the frame has a completion.
     pub(crate) fn record<T: OutcomeTable>(
         &self,
         frame: &Frame,
         outcome: &[u32],
-        sure: bool,
-        doubt: bool,
+        feasible: bool,
+        dead_end: bool,
         table: &mut T,
     ) -> Result<bool, AllocError>
-        requires settled { IsSettled (box_of self.now frame.now) frame.now }
+        requires fixpoint { IsFixpoint (box_of self.now frame.now) frame.now }
         requires same { (x : Execution) → IsCompletion (box_of self.now frame.now) x → execution_outcome self.now.0 x ≡ outcome.now }
-        requires sure { IsTrue sure → HasSolution (box_of self.now frame.now) Any }
+        requires feasible { IsTrue feasible → HasSolution (box_of self.now frame.now) Any }
         ensures added { AddsEntries (box_of self.now frame.now) (T.entries table.old) (T.entries table.new) }
         ensures whole { OnOk result (HasEachOutcome (box_of self.now frame.now) (T.entries table.new)) }
     {
         if table.has(outcome) {
-            return Ok(doubt);
+            return Ok(dead_end);
         }
-        let Some(least) = self.least(frame, Goal::Any, sure) else {
+        let Some(least) = self.least(frame, Goal::Any, feasible) else {
             return Ok(true);
         };
         let choice = number_of(&self.combination, least.sources.as_slice());
@@ -122,7 +122,7 @@ impl Problem<'_> {
         table: &mut T,
         heartbeat: &H,
     ) -> Result<bool, AllocError>
-        requires settled { IsSettled (box_of self.now frame.now) frame.now }
+        requires fixpoint { IsFixpoint (box_of self.now frame.now) frame.now }
         requires leaf { IsLeaf (box_of self.now frame.now) }
         ensures added { AddsEntries (box_of self.now frame.now) (T.entries table.old) (T.entries table.new) }
         ensures whole { OnOk result (HasEachOutcome (box_of self.now frame.now) (T.entries table.new)) }
@@ -134,29 +134,29 @@ impl Problem<'_> {
         Ok(false)
     }
 
-    /// Whether a frame may have a completion. It searches for one only where there is doubt.
-    fn may_complete(&self, frame: &Frame, doubt: bool) -> bool
-        requires { IsSettled (box_of self.now frame.now) frame.now }
+    /// Whether a frame may have a completion. It searches for one only behind a dead end.
+    fn may_complete(&self, frame: &Frame, dead_end: bool) -> bool
+        requires { IsFixpoint (box_of self.now frame.now) frame.now }
         ensures { IsFalse result → HasNoCompletion (box_of self.now frame.now) }
     {
-        !doubt || self.exists(frame, Goal::Any)
+        !dead_end || self.exists(frame, Goal::Any)
     }
 
     /// Records the outcomes of a frame that the table lacks, by a search that branches on the values of observed byte reads. `values` are
     /// the first of each outcome. Answers what it ended at: `None` where it gave up, which it does only if told to, at a frame that has
     /// no completion; else whether the last frame had none. While that is so it descends only into frames with a completion, and so it
-    /// does from the beginning if there is doubt.
+    /// does from the beginning if it begins behind a dead end.
     fn outcomes_by_values<T: OutcomeTable, H: Heartbeat>(
         &self,
         alloc: Global,
         frame: &Frame,
         values: &Values,
-        doubt: bool,
+        dead_end: bool,
         gives_up: bool,
         table: &mut T,
         heartbeat: &H,
     ) -> Result<Option<bool>, AllocError>
-        requires settled { IsSettled (box_of self.now frame.now) frame.now }
+        requires fixpoint { IsFixpoint (box_of self.now frame.now) frame.now }
         requires first { AreFirstValues (box_of self.now frame.now) values.now.items }
         ensures added { AddsEntries (box_of self.now frame.now) (T.entries table.old) (T.entries table.new) }
         ensures whole { IfOk result (λ end. IsSome end → HasEachOutcome (box_of self.now frame.now) (T.entries table.new)) }
@@ -167,7 +167,7 @@ impl Problem<'_> {
         heartbeat.beat()?;
         let mut values = values.clone()?;
         let Some(place) = self.next_observed(frame, &mut values) else {
-            let none = self.record(frame, values.as_slice(), false, doubt, table)?;
+            let none = self.record(frame, values.as_slice(), false, dead_end, table)?;
             return Ok(end_at(none, gives_up));
         };
         let Some(_branch) = self.branch(frame) else {
@@ -178,23 +178,23 @@ impl Problem<'_> {
         let _events = self.events();
         let all = self.sources_left(frame, place);
         let mut left = all;
-        let mut doubt = doubt;
+        let mut dead_end = dead_end;
         while let Some((source, _others)) = left.split_first() {
             let group = self.storing_same(all, place, source);
             let mut next = *frame;
             // To refute an outcome takes long, and the next ones are mostly infeasible too: one search for any completion costs less.
-            if self.cut(&mut next, place, group) && self.may_complete(&next, doubt) {
+            if self.cut(&mut next, place, group) && self.may_complete(&next, dead_end) {
                 let end = self.outcomes_by_values(
-                    alloc, &next, &values, doubt, gives_up, table, heartbeat,
+                    alloc, &next, &values, dead_end, gives_up, table, heartbeat,
                 )?;
                 let Some(none) = end else {
                     return Ok(None);
                 };
-                doubt = none;
+                dead_end = none;
             }
             left = left.difference(group);
         }
-        Ok(Some(doubt))
+        Ok(Some(dead_end))
     }
 
     /// Records the outcomes of a frame that the table lacks (decision 189).
@@ -205,7 +205,7 @@ impl Problem<'_> {
         table: &mut T,
         heartbeat: &H,
     ) -> Result<(), AllocError>
-        requires settled { IsSettled (box_of self.now frame.now) frame.now }
+        requires fixpoint { IsFixpoint (box_of self.now frame.now) frame.now }
         ensures added { AddsEntries (box_of self.now frame.now) (T.entries table.old) (T.entries table.new) }
         ensures whole { OnOk result (HasEachOutcome (box_of self.now frame.now) (T.entries table.new)) }
     {

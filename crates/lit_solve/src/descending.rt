@@ -7,7 +7,7 @@ ghost use Rattle.lit_solve.specs.Given.{HasAlone};
 ghost use Rattle.lit_solve.specs.Internal.Descending.{AreAloneBelow, IsLowest, IsLowestAt};
 ghost use Rattle.lit_solve.specs.Box.{events_on};
 ghost use Rattle.lit_solve.specs.Internal.Frames.{box_of};
-ghost use Rattle.lit_solve.specs.Internal.Settled.{IsSettled};
+ghost use Rattle.lit_solve.specs.Internal.Fixpoint.{IsFixpoint};
 
 use crate::domains::set_of;
 use crate::frame::Frame;
@@ -15,13 +15,13 @@ use crate::goal::{Goal, Prospect};
 use crate::problem::Problem;
 
 impl Problem<'_> {
-    /// Whether a frame may have a solution, as far as its domains show. If `sure`, whether it has one, by a search.
-    fn is_promising(&self, frame: &Frame, goal: Goal, sure: bool) -> bool
-        requires { IsSettled (box_of self.now frame.now) frame.now }
+    /// Whether a frame may have a solution, as far as its domains show. If `complete`, whether it has one, by a search.
+    fn is_promising(&self, frame: &Frame, goal: Goal, complete: bool) -> bool
+        requires { IsFixpoint (box_of self.now frame.now) frame.now }
         ensures none { ¬ IsTrue result → ¬ HasSolution (box_of self.now frame.now) goal }
-        ensures sure { IsTrue sure → IsTrue result → HasSolution (box_of self.now frame.now) goal }
+        ensures solution { IsTrue complete → IsTrue result → HasSolution (box_of self.now frame.now) goal }
     {
-        if sure {
+        if complete {
             return self.exists(frame, goal);
         }
         match self.prospect(frame, goal) {
@@ -30,15 +30,15 @@ impl Problem<'_> {
         }
     }
 
-    /// Gives the byte read at a place its least source that is not refuted, or, if `sure`, its least source with a solution. Answers
+    /// Gives the byte read at a place its least source that is not refuted, or, if `complete`, its least source with a solution. Answers
     /// whether there is such a source.
-    fn take_least(&self, frame: &mut Frame, goal: Goal, sure: bool, place: usize) -> bool
+    fn take_least(&self, frame: &mut Frame, goal: Goal, complete: bool, place: usize) -> bool
         requires place { place < length (byte_reads (events_on self.now)) }
-        requires settled { IsSettled (box_of self.now frame.old) frame.old }
-        ensures settled { IsTrue result → IsSettled (box_of self.now frame.new) frame.new }
+        requires fixpoint { IsFixpoint (box_of self.now frame.old) frame.old }
+        ensures fixpoint { IsTrue result → IsFixpoint (box_of self.now frame.new) frame.new }
         ensures alone { IsTrue result → (w : ℕ) × HasAlone (box_of self.now frame.new) place w }
         ensures lowest { IsTrue result → IsLowestAt (box_of self.now frame.old) goal place (box_of self.now frame.new) }
-        ensures sure { IsTrue result → IsTrue sure → HasSolution (box_of self.now frame.new) goal }
+        ensures solution { IsTrue result → IsTrue complete → HasSolution (box_of self.now frame.new) goal }
         ensures none { IsFalse result → ¬ HasSolution (box_of self.now frame.old) goal }
     {
         // For the prover: a combination has few events.
@@ -46,7 +46,7 @@ impl Problem<'_> {
         let before = *frame;
         let mut left = self.sources_left(&before, place);
         while let Some((source, others)) = left.split_first() {
-            if self.cut(frame, place, set_of(source)) && self.is_promising(&*frame, goal, sure) {
+            if self.cut(frame, place, set_of(source)) && self.is_promising(&*frame, goal, complete) {
                 return true;
             }
             *frame = before;
@@ -55,22 +55,22 @@ impl Problem<'_> {
         false
     }
 
-    /// Gives each byte read in turn its least source that is not refuted, or, if `sure`, its least source with a solution; the frame
+    /// Gives each byte read in turn its least source that is not refuted, or, if `complete`, its least source with a solution; the frame
     /// has one then. Answers whether each byte read got a source.
-    pub(crate) fn descend(&self, frame: &mut Frame, goal: Goal, sure: bool) -> bool
-        requires settled { IsSettled (box_of self.now frame.old) frame.old }
-        requires sure { IsTrue sure → HasSolution (box_of self.now frame.old) goal }
-        ensures settled { IsTrue result → IsSettled (box_of self.now frame.new) frame.new }
+    pub(crate) fn descend(&self, frame: &mut Frame, goal: Goal, complete: bool) -> bool
+        requires fixpoint { IsFixpoint (box_of self.now frame.old) frame.old }
+        requires solution { IsTrue complete → HasSolution (box_of self.now frame.old) goal }
+        ensures fixpoint { IsTrue result → IsFixpoint (box_of self.now frame.new) frame.new }
         ensures alone { IsTrue result → AreAloneBelow (box_of self.now frame.new) (length (byte_reads (events_on self.now))) }
         ensures lowest { IsTrue result → IsLowest (box_of self.now frame.old) goal (box_of self.now frame.new) }
-        ensures found { IsTrue sure → IsTrue result }
-        ensures sure { IsTrue sure → HasSolution (box_of self.now frame.new) goal }
+        ensures found { IsTrue complete → IsTrue result }
+        ensures solution { IsTrue complete → HasSolution (box_of self.now frame.new) goal }
     {
         for place in 0..self.reads() {
             if let Some(_source) = self.given(&*frame, place) {
                 continue;
             }
-            if !self.take_least(frame, goal, sure, place) {
+            if !self.take_least(frame, goal, complete, place) {
                 return false;
             }
         }

@@ -9,7 +9,7 @@ ghost use Rattle.lit_solve.specs.Completion.{IsCompletion};
 ghost use Rattle.lit_solve.specs.Internal.Frames.{IsContained, box_of};
 ghost use Rattle.lit_solve.specs.Internal.Observation.{AreFirstValues};
 ghost use Rattle.lit_solve.specs.Internal.Searching.{IsBranch};
-ghost use Rattle.lit_solve.specs.Internal.Settled.{IsSettled};
+ghost use Rattle.lit_solve.specs.Internal.Fixpoint.{IsFixpoint};
 ghost use Rattle.lit_solve.specs.Outcomes.{AddsEntries, HasEachOutcome};
 ghost use Rattle.lit_solve.specs.Prospect.{IsUndecidedAt};
 ghost use Rattle.lit_valid.specs.Entry.{HasOutcome};
@@ -101,7 +101,7 @@ impl Problem<'_> {
         values: &Values,
         table: &mut T,
     ) -> Result<(), AllocError>
-        requires settled { IsSettled (box_of self.now frame.now) frame.now }
+        requires fixpoint { IsFixpoint (box_of self.now frame.now) frame.now }
         requires first { AreFirstValues (box_of self.now frame.now) values.now.items }
         requires completes { (x : Execution) × IsCompletion (box_of self.now frame.now) x × (x.sources ≡ sources.now) }
         ensures added { AddsEntries (box_of self.now frame.now) (T.entries table.old) (T.entries table.new) }
@@ -129,7 +129,7 @@ impl Problem<'_> {
     /// On which byte read an enumeration branches: on one that can force something, or else on one whose sources store several bytes, if
     /// it is given such a one.
     fn next_branch(&self, frame: &Frame, undecided: Option<usize>) -> Option<Branch>
-        requires settled { IsSettled (box_of self.now frame.now) frame.now }
+        requires fixpoint { IsFixpoint (box_of self.now frame.now) frame.now }
         requires undecided { IfSome undecided (λ k. (k < length (byte_reads (events_on self.now))) × IsUndecidedAt (box_of self.now frame.now) k) }
         ensures branch { IfSome result (IsBranch (box_of self.now frame.now)) }
         ensures none { IfNone result (IsNone undecided) }
@@ -157,8 +157,8 @@ impl Problem<'_> {
         table: &mut T,
         heartbeat: &H,
     ) -> Result<(), AllocError>
-        requires root { IsSettled (box_of self.now root.now) root.now }
-        requires settled { IsSettled (box_of self.now frame.now) frame.now }
+        requires root { IsFixpoint (box_of self.now root.now) root.now }
+        requires fixpoint { IsFixpoint (box_of self.now frame.now) frame.now }
         requires within { IsWithin (box_of self.now frame.now) (box_of self.now root.now) }
         ensures added { AddsEntries (box_of self.now root.now) (T.entries table.old) (T.entries table.new) }
         ensures whole { OnOk result (HasEachOutcome (box_of self.now frame.now) (T.entries table.new)) }

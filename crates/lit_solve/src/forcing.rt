@@ -15,7 +15,7 @@ ghost use Rattle.lit_solve.specs.Fill.{HasEffect};
 ghost use Rattle.lit_solve.specs.Given.{HappensBeforeIn, HasAlone, IsForbiddenIn};
 ghost use Rattle.lit_solve.specs.Box.{events_on};
 ghost use Rattle.lit_solve.specs.Internal.Frames.{IsContained, IsForbiddenAt, IsSynchronizedAt, box_of};
-ghost use Rattle.lit_solve.specs.Internal.Settled.{IsSettledBelow};
+ghost use Rattle.lit_solve.specs.Internal.Fixpoint.{IsFixpointBelow};
 
 use crate::domains::only_one;
 use crate::frame::Frame;
@@ -170,7 +170,7 @@ impl Problem<'_> {
     pub(crate) fn force(&self, frame: &mut Frame, between: &mut Between) -> bool
         requires contained { IsContained (box_of self.now frame.old) frame.old }
         ensures domains { frame.new.domains ≡ frame.old.domains }
-        ensures settled { IsTrue result → IsSettledBelow (box_of self.now frame.new) frame.new 0 }
+        ensures fixpoint { IsTrue result → IsFixpointBelow (box_of self.now frame.new) frame.new 0 }
         ensures cycle { IsFalse result → HasForcedCycle (HappensBeforeIn (box_of self.now frame.old))
             (IsForbiddenIn (box_of self.now frame.old)) }
     {

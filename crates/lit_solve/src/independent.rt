@@ -15,7 +15,7 @@ ghost use Rattle.lit_solve.specs.Given.{HasAlone};
 ghost use Rattle.lit_solve.specs.Internal.Descending.{IsLowestAt};
 ghost use Rattle.lit_solve.specs.Internal.Independent.{HasLeastOrderIn, IsIndependent};
 ghost use Rattle.lit_solve.specs.Internal.Pruning.{size_of};
-ghost use Rattle.lit_solve.specs.Internal.Settled.{IsCut, TakesFrom};
+ghost use Rattle.lit_solve.specs.Internal.Fixpoint.{IsCut, TakesFrom};
 
 use crate::domains::{Domains, only_one, set_of};
 use crate::laws::{

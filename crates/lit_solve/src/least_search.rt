@@ -6,7 +6,7 @@ ghost use Rattle.lit_solve.specs.Box.{IsBox, LiesIn, box_with, events_on};
 ghost use Rattle.lit_solve.specs.Completion.{HasSolution, IsLeastSolution};
 ghost use Rattle.lit_solve.specs.Internal.Descending.{AreAloneBelow, IsLowest};
 ghost use Rattle.lit_solve.specs.Internal.Frames.{box_of};
-ghost use Rattle.lit_solve.specs.Internal.Settled.{IsSettled};
+ghost use Rattle.lit_solve.specs.Internal.Fixpoint.{IsFixpoint};
 
 use crate::domains::{Domains, only_one};
 use crate::frame::Frame;
@@ -42,12 +42,12 @@ impl Problem<'_> {
         sources
     }
 
-    /// Descends to the frame of the least solution, in which each domain has one source. Answers whether there is a solution. If `sure`,
+    /// Descends to the frame of the least solution, in which each domain has one source. Answers whether there is a solution. If `feasible`,
     /// there is one.
-    fn find_least(&self, frame: &mut Frame, goal: Goal, sure: bool) -> bool
-        requires settled { IsSettled (box_of self.now frame.old) frame.old }
-        requires sure { IsTrue sure → HasSolution (box_of self.now frame.old) goal }
-        ensures settled { IsTrue result → IsSettled (box_of self.now frame.new) frame.new }
+    fn find_least(&self, frame: &mut Frame, goal: Goal, feasible: bool) -> bool
+        requires fixpoint { IsFixpoint (box_of self.now frame.old) frame.old }
+        requires feasible { IsTrue feasible → HasSolution (box_of self.now frame.old) goal }
+        ensures fixpoint { IsTrue result → IsFixpoint (box_of self.now frame.new) frame.new }
         ensures alone { IsTrue result → AreAloneBelow (box_of self.now frame.new) (length (byte_reads (events_on self.now))) }
         ensures lowest { IsTrue result → IsLowest (box_of self.now frame.old) goal (box_of self.now frame.new) }
         ensures found { IsTrue result → HasSolution (box_of self.now frame.new) goal }
@@ -60,13 +60,13 @@ impl Problem<'_> {
             return true;
         }
         // A source that is not refuted may still be in no solution, so that a failed descent proves nothing.
-        (sure || self.exists(&*frame, goal)) && self.descend(frame, goal, true)
+        (feasible || self.exists(&*frame, goal)) && self.descend(frame, goal, true)
     }
 
-    /// The least solution of a frame, or `None` exactly if there is none. If `sure`, there is one.
-    pub(crate) fn least(&self, frame: &Frame, goal: Goal, sure: bool) -> Option<Least>
-        requires settled { IsSettled (box_of self.now frame.now) frame.now }
-        requires sure { IsTrue sure → HasSolution (box_of self.now frame.now) goal }
+    /// The least solution of a frame, or `None` exactly if there is none. If `feasible`, there is one.
+    pub(crate) fn least(&self, frame: &Frame, goal: Goal, feasible: bool) -> Option<Least>
+        requires fixpoint { IsFixpoint (box_of self.now frame.now) frame.now }
+        requires feasible { IsTrue feasible → HasSolution (box_of self.now frame.now) goal }
         ensures { MatchOption result (¬ HasSolution (box_of self.now frame.now) goal)
             (λ least. IsLeastSolution (box_of self.now frame.now) goal least.sources.items least.order.items) }
     {
@@ -80,7 +80,7 @@ impl Problem<'_> {
             });
         }
         let mut down = *frame;
-        if !self.find_least(&mut down, goal, sure) {
+        if !self.find_least(&mut down, goal, feasible) {
             return None;
         }
         match self.least_order(&down) {

@@ -1,4 +1,4 @@
-//! Leaves of the search: whether a settled frame in which no open byte read can force anything has a completion. And possible data
+//! Leaves of the search: whether a frame at its fixpoint in which no open byte read can force anything has a completion. And possible data
 //! races of a frame (ECMA-262, 2024, 29.8 and 29.9).
 
 ghost use Rattle.std.specs.Prelude.{◌↔◌, ℕ, ◌<◌, IfNone, IfSome, IsTrue, length};
@@ -14,7 +14,7 @@ ghost use Rattle.lit_solve.specs.Internal.Frames.{IsContained, box_of};
 ghost use Rattle.lit_solve.specs.Internal.Independent.{HasLeastOrderIn, IsIndependent};
 ghost use Rattle.lit_solve.specs.Internal.Leaves.{MayHave, RacesAt, RacesIn};
 ghost use Rattle.lit_solve.specs.Internal.Pruning.{HasNoCompletion};
-ghost use Rattle.lit_solve.specs.Internal.Settled.{IsSettled};
+ghost use Rattle.lit_solve.specs.Internal.Fixpoint.{IsFixpoint};
 
 use crate::domains::{Domains, set_of};
 use crate::frame::Frame;
@@ -41,7 +41,7 @@ impl Problem<'_> {
     /// The least memory-order of the completions of a leaf, or `None` exactly if it has none. Its reads are filled one by one, and each
     /// order of what is given is a memory-order of each completion.
     pub(crate) fn leaf_order(&self, frame: &Frame) -> Option<Order>
-        requires settled { IsSettled (box_of self.now frame.now) frame.now }
+        requires fixpoint { IsFixpoint (box_of self.now frame.now) frame.now }
         requires leaf { IsLeaf (box_of self.now frame.now) }
         ensures independent { IfSome result (λ _. IsIndependent (box_of self.now frame.now)) }
         ensures least { IfSome result (λ order. HasLeastOrderIn (box_of self.now frame.now) order.items) }
@@ -60,7 +60,7 @@ impl Problem<'_> {
 
     /// Whether a leaf has a completion.
     pub(crate) fn has_completion(&self, frame: &Frame) -> bool
-        requires settled { IsSettled (box_of self.now frame.now) frame.now }
+        requires fixpoint { IsFixpoint (box_of self.now frame.now) frame.now }
         requires leaf { IsLeaf (box_of self.now frame.now) }
         ensures { IsTrue result ↔ HasSolution (box_of self.now frame.now) Any }
     {

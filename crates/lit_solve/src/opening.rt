@@ -8,7 +8,7 @@ ghost use Rattle.lit_solve.specs.Box.{HasEmptyDomain, HasSource, IsBox, box_with
 ghost use Rattle.lit_solve.specs.Completion.{IsCompletion};
 ghost use Rattle.lit_solve.specs.Internal.Frames.{IsContained, box_of};
 ghost use Rattle.lit_solve.specs.Internal.Pruning.{HasNoCompletion, Prunes, size_of};
-ghost use Rattle.lit_solve.specs.Internal.Settled.{IsCut, IsSettled, TakesFrom};
+ghost use Rattle.lit_solve.specs.Internal.Fixpoint.{IsCut, IsFixpoint, TakesFrom};
 
 use crate::domains::Domains;
 use crate::frame::Frame;
@@ -22,7 +22,7 @@ use lit_rel::{EventSet, unsourced_order};
 
 impl Problem<'_> {
     /// A frame of a box without empty domains, before any propagation.
-    fn unsettled(&self, domains: &Domains) -> Frame
+    fn unpropagated(&self, domains: &Domains) -> Frame
         requires is_box { IsBox (box_with self.now domains.now) }
         requires some { ¬ HasEmptyDomain (box_with self.now domains.now) }
         ensures domains { result.domains ≡ domains.now }
@@ -62,9 +62,9 @@ impl Problem<'_> {
     }
 
     /// The frame of a box, pruned and propagated until nothing more is forced. `None` if that refutes the box.
-    pub(crate) fn settle(&self, domains: &Domains) -> Option<Frame>
+    pub(crate) fn fixpoint(&self, domains: &Domains) -> Option<Frame>
         requires { IsBox (box_with self.now domains.now) }
-        ensures settled { IfSome result (λ frame. IsSettled (box_of self.now frame) frame) }
+        ensures fixpoint { IfSome result (λ frame. IsFixpoint (box_of self.now frame) frame) }
         ensures prunes { IfSome result (λ frame. Prunes (box_with self.now domains.now) (box_of self.now frame)) }
         ensures none { IfNone result (HasNoCompletion (box_with self.now domains.now)) }
     {
@@ -74,7 +74,7 @@ impl Problem<'_> {
             return None;
         }
         let domains = self.consistent(domains)?;
-        let mut frame = self.unsettled(&domains);
+        let mut frame = self.unpropagated(&domains);
         if self.propagate(&mut frame) && self.can_fill_each(&frame.domains) {
             Some(frame)
         } else {
@@ -96,8 +96,8 @@ impl Problem<'_> {
     /// source of the set there. Checks only this read for filling (decision 35).
     pub(crate) fn cut(&self, frame: &mut Frame, place: usize, set: EventSet) -> bool
         requires place { place < length (byte_reads (events_on self.now)) }
-        requires settled { IsSettled (box_of self.now frame.old) frame.old }
-        ensures settled { IsTrue result → IsSettled (box_of self.now frame.new) frame.new }
+        requires fixpoint { IsFixpoint (box_of self.now frame.old) frame.old }
+        ensures fixpoint { IsTrue result → IsFixpoint (box_of self.now frame.new) frame.new }
         ensures cut { IsTrue result → IsCut (box_of self.now frame.old) place set (box_of self.now frame.new) }
         ensures less { IsTrue result → ¬ ((w : ℕ) → HasSource (box_of self.now frame.old) place w → HasEvent set w)
             → size_of frame.new.domains < size_of frame.old.domains }

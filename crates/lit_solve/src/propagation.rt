@@ -3,7 +3,7 @@
 ghost use Rattle.std.specs.Prelude.{◌≤◌, IsFalse, IsTrue};
 ghost use Rattle.lit_solve.specs.Internal.Frames.{IsContained, box_of};
 ghost use Rattle.lit_solve.specs.Internal.Pruning.{HasNoCompletion, Prunes, size_of};
-ghost use Rattle.lit_solve.specs.Internal.Settled.{IsSettled};
+ghost use Rattle.lit_solve.specs.Internal.Fixpoint.{IsFixpoint};
 
 use crate::frame::Frame;
 use crate::laws::refuted_boxes_have_no_completion;
@@ -16,7 +16,7 @@ impl Problem<'_> {
     pub(crate) fn propagate(&self, frame: &mut Frame) -> bool
         requires { IsContained (box_of self.now frame.old) frame.old }
         ensures prunes { IsTrue result → Prunes (box_of self.now frame.old) (box_of self.now frame.new) }
-        ensures settled { IsTrue result → IsSettled (box_of self.now frame.new) frame.new }
+        ensures fixpoint { IsTrue result → IsFixpoint (box_of self.now frame.new) frame.new }
         ensures size { IsTrue result → size_of frame.new.domains ≤ size_of frame.old.domains }
         ensures none { IsFalse result → HasNoCompletion (box_of self.now frame.old) }
     {

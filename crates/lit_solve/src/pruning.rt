@@ -13,7 +13,7 @@ ghost use Rattle.lit_solve.specs.Given.{GivenIn, HasAlone};
 ghost use Rattle.lit_solve.specs.Prunable.{IsPrunable};
 ghost use Rattle.lit_solve.specs.Internal.Frames.{IsContained, box_of};
 ghost use Rattle.lit_solve.specs.Internal.Pruning.{HasNoCompletion, Prunes, size_of};
-ghost use Rattle.lit_solve.specs.Internal.Settled.{IsSettled, IsSettledBelow};
+ghost use Rattle.lit_solve.specs.Internal.Fixpoint.{IsFixpoint, IsFixpointBelow};
 
 use crate::domains::set_of;
 use crate::frame::Frame;
@@ -196,8 +196,8 @@ impl Problem<'_> {
         ensures before { frame.new.happens_before ≡ frame.old.happens_before }
         ensures contained { IfSome result (λ _. IsContained (box_of self.now frame.new) frame.new) }
         ensures prunes { IfSome result (λ _. Prunes (box_of self.now frame.old) (box_of self.now frame.new)) }
-        ensures settled { IfSome result (λ forces. IsFalse forces → IsSettledBelow (box_of self.now frame.old) frame.old place
-            → IsSettledBelow (box_of self.now frame.new) frame.new (place + 1)) }
+        ensures fixpoint { IfSome result (λ forces. IsFalse forces → IsFixpointBelow (box_of self.now frame.old) frame.old place
+            → IsFixpointBelow (box_of self.now frame.new) frame.new (place + 1)) }
         ensures less { IfSome result (λ forces. IsTrue forces → size_of frame.new.domains < size_of frame.old.domains) }
         ensures size { size_of frame.new.domains ≤ size_of frame.old.domains }
         ensures none { IfNone result (HasNoCompletion (box_of self.now frame.old)) }
@@ -219,10 +219,10 @@ impl Problem<'_> {
 
     /// Prunes each domain once. `None` if that leaves a domain empty; else whether it cut one to a source that can force something.
     pub(crate) fn prune(&self, frame: &mut Frame) -> Option<bool>
-        requires { IsSettledBelow (box_of self.now frame.old) frame.old 0 }
+        requires { IsFixpointBelow (box_of self.now frame.old) frame.old 0 }
         ensures contained { IfSome result (λ _. IsContained (box_of self.now frame.new) frame.new) }
         ensures prunes { IfSome result (λ _. Prunes (box_of self.now frame.old) (box_of self.now frame.new)) }
-        ensures settled { IfSome result (λ forces. IsFalse forces → IsSettled (box_of self.now frame.new) frame.new) }
+        ensures fixpoint { IfSome result (λ forces. IsFalse forces → IsFixpoint (box_of self.now frame.new) frame.new) }
         ensures less { IfSome result (λ forces. IsTrue forces → size_of frame.new.domains < size_of frame.old.domains) }
         ensures size { size_of frame.new.domains ≤ size_of frame.old.domains }
         ensures none { IfNone result (HasNoCompletion (box_of self.now frame.old)) }

@@ -6,7 +6,7 @@ ghost use Rattle.lit_solve.specs.Completion.{HasSolution, IsCompletion};
 ghost use Rattle.lit_solve.specs.Fill.{IsLeaf};
 ghost use Rattle.lit_solve.specs.Internal.ConditionValues.{MeetsByOutcome};
 ghost use Rattle.lit_solve.specs.Internal.Frames.{box_of};
-ghost use Rattle.lit_solve.specs.Internal.Settled.{IsSettled};
+ghost use Rattle.lit_solve.specs.Internal.Fixpoint.{IsFixpoint};
 
 use crate::frame::Frame;
 use crate::goal::Goal;
@@ -17,7 +17,7 @@ use crate::stepping::Step;
 impl Problem<'_> {
     /// Whether a leaf has a solution. Each completion is one, as far as its outcome goes.
     fn is_met(&self, frame: &Frame, goal: Goal) -> bool
-        requires settled { IsSettled (box_of self.now frame.now) frame.now }
+        requires fixpoint { IsFixpoint (box_of self.now frame.now) frame.now }
         requires leaf { IsLeaf (box_of self.now frame.now) }
         requires each { (x : Execution) → IsCompletion (box_of self.now frame.now) x
             → MeetsByOutcome (box_of self.now frame.now).test goal x }
@@ -34,7 +34,7 @@ impl Problem<'_> {
 
     /// Whether a frame has a solution.
     pub(crate) fn exists(&self, frame: &Frame, goal: Goal) -> bool
-        requires { IsSettled (box_of self.now frame.now) frame.now }
+        requires { IsFixpoint (box_of self.now frame.now) frame.now }
         ensures { IsTrue result ↔ HasSolution (box_of self.now frame.now) goal }
     {
         let branch = match self.step(frame, goal) {

@@ -19,7 +19,7 @@ pub fn exists(problem: &Problem<'_>, domains: &Domains, goal: Goal) -> bool
     requires { IsBox (box_with problem.now domains.now) }
     ensures { IsTrue result ↔ HasSolution (box_with problem.now domains.now) goal }
 {
-    match problem.settle(domains) {
+    match problem.fixpoint(domains) {
         Some(frame) => problem.exists(&frame, goal),
         None => false,
     }
@@ -31,7 +31,7 @@ pub fn least(problem: &Problem<'_>, domains: &Domains, goal: Goal) -> Option<Lea
     ensures { MatchOption result (¬ HasSolution (box_with problem.now domains.now) goal)
         (λ least. IsLeastSolution (box_with problem.now domains.now) goal least.sources.items least.order.items) }
 {
-    match problem.settle(domains) {
+    match problem.fixpoint(domains) {
         Some(frame) => problem.least(&frame, goal, false),
         None => None,
     }
@@ -54,7 +54,7 @@ pub fn outcomes_and_race<T: OutcomeTable, H: Heartbeat>(
     ensures whole { OnOk result (HasEachOutcome (box_with problem.now domains.now) (T.entries table.new)) }
     ensures race { IfOk result (λ race. IsTrue race ↔ (IsTrue mark ⊎ HasSolution (box_with problem.now domains.now) Race)) }
 {
-    let Some(frame) = problem.settle(domains) else {
+    let Some(frame) = problem.fixpoint(domains) else {
         return Ok(mark);
     };
     problem.outcomes(alloc, &frame, table, heartbeat)?;

@@ -7,7 +7,7 @@ ghost use Rattle.lit_solve.specs.Internal.ConditionValues.{IsProspect};
 ghost use Rattle.lit_solve.specs.Box.{box_with, events_on};
 ghost use Rattle.lit_solve.specs.Internal.Frames.{box_of};
 ghost use Rattle.lit_solve.specs.Internal.Searching.{GoesWith, IsStep};
-ghost use Rattle.lit_solve.specs.Internal.Settled.{IsSettled};
+ghost use Rattle.lit_solve.specs.Internal.Fixpoint.{IsFixpoint};
 
 use crate::domains::set_of;
 use crate::frame::Frame;
@@ -40,7 +40,7 @@ pub(crate) enum Step {
 impl Problem<'_> {
     /// What a frame says of a goal before the search branches.
     pub(crate) fn prospect(&self, frame: &Frame, goal: Goal) -> Prospect
-        requires { IsSettled (box_of self.now frame.now) frame.now }
+        requires { IsFixpoint (box_of self.now frame.now) frame.now }
         ensures { IsProspect (box_of self.now frame.now) goal result }
     {
         // For the prover: an execution's outcome follows from its sources.
@@ -61,7 +61,7 @@ impl Problem<'_> {
 
     /// The search's step at a frame. It branches first on what decides the goal (decision 27).
     pub(crate) fn step(&self, frame: &Frame, goal: Goal) -> Step
-        requires { IsSettled (box_of self.now frame.now) frame.now }
+        requires { IsFixpoint (box_of self.now frame.now) frame.now }
         ensures { IsStep (box_of self.now frame.now) goal result }
     {
         if self.is_disordered(frame) {

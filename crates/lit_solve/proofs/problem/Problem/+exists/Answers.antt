@@ -16,7 +16,7 @@ exists-requires t c = (
       (c.cut.ensures.less c.if-cut.true
       (not_all (box_of c.args.self.now c.args.frame.now) c.in-Branched.branch c.in-Branched.ensures c.in-Some.source
       (c.loop-source.invariant.within c.in-Some.source c.in-Some.ensures.there) c.part-part.result c.part-part.ensures.apart)),
-  c.cut.ensures.settled c.if-cut.true,
+  c.cut.ensures.fixpoint c.if-cut.true,
 )
 
 pub returns-then-exists : goal.returns-then-exists

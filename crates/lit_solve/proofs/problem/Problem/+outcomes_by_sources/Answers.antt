@@ -16,7 +16,7 @@ next_branch-requires-clause-undecided g t c =
 
 pub part-part-requires-clause-known : goal.part-part-requires-clause-known
 part-part-requires-clause-known g t c w there =
-    source_known (box_of c.args.self.now c.args.frame.now) c.requires.settled.exact.contained.is_box c.in-Some.branch.place w
+    source_known (box_of c.args.self.now c.args.frame.now) c.requires.fixpoint.exact.contained.is_box c.in-Some.branch.place w
     c.in-Some.ensures.branch.known (c.loop-source.invariant.within w there)
 
 pub outcomes_by_sources-requires : goal.outcomes_by_sources-requires
@@ -34,7 +34,7 @@ outcomes_by_sources-requires g t c κs within =
           (
             c.requires.root,
             (
-              c.cut.ensures.settled c.if-cut.true,
+              c.cut.ensures.fixpoint c.if-cut.true,
               within_on (box_of c.args.self.now c.cut.new.frame) box (box_of c.args.self.now c.args.root.now)
                   (c.cut.ensures.cut c.if-cut.true).within c.requires.within,
             ),

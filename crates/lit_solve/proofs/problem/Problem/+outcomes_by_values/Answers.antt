@@ -17,7 +17,7 @@ loop-source-init g t c = record {
 pub storing_same-group-requires : goal.storing_same-group-requires
 storing_same-group-requires g t c =
     let box = box_of c.args.self.now c.args.frame.now in
-    let known = λ (w : ℕ). source_known box c.requires.settled.exact.contained.is_box c.in-Some.place w c.in-Some.ensures.observed.0 in
+    let known = λ (w : ℕ). source_known box c.requires.fixpoint.exact.contained.is_box c.in-Some.place w c.in-Some.ensures.observed.0 in
     record {
       place = c.in-Some.ensures.observed.0;
       source = known c.in-Some-split_first.source (c.loop-source.invariant.within c.in-Some-split_first.source c.in-Some-split_first.ensures.there);
@@ -39,7 +39,7 @@ outcomes_by_values-requires g t c κs within =
         (
           within.1,
           (
-            c.cut.ensures.settled c.if-cut.true,
+            c.cut.ensures.fixpoint c.if-cut.true,
             first_within box c.cut.new.frame.domains c.next_observed.new.values.items (c.cut.ensures.cut c.if-cut.true).within
                 c.next_observed.ensures.first,
           ),
@@ -57,7 +57,7 @@ returns-in_err-end-clause-added g t c =
     let mid = g.T.OutcomeTable.entries c.loop-source.table in
     let new = g.T.OutcomeTable.entries c.outcomes_by_values.new.table in
     adds_more box old mid new c.loop-source.invariant.added
-    (part_adds c.laws_below.ensures box c.requires.settled.exact.contained.is_box c.events-events.ensures.sound place
+    (part_adds c.laws_below.ensures box c.requires.fixpoint.exact.contained.is_box c.events-events.ensures.sound place
     c.in-Some.ensures.observed.0 c.in-Some.ensures.observed.2 c.in-Some-split_first.source c.storing_same-group.result matching
     c.cut.new.frame.domains (c.cut.ensures.cut c.if-cut.true) mid new c.outcomes_by_values.ensures.added)
 
@@ -71,7 +71,7 @@ returns-in_default-end-clause-added g t c =
     let mid = g.T.OutcomeTable.entries c.loop-source.table in
     let new = g.T.OutcomeTable.entries c.outcomes_by_values.new.table in
     adds_more box old mid new c.loop-source.invariant.added
-    (part_adds c.laws_below.ensures box c.requires.settled.exact.contained.is_box c.events-events.ensures.sound place
+    (part_adds c.laws_below.ensures box c.requires.fixpoint.exact.contained.is_box c.events-events.ensures.sound place
     c.in-Some.ensures.observed.0 c.in-Some.ensures.observed.2 c.in-Some-split_first.source c.storing_same-group.result matching
     c.cut.new.frame.domains (c.cut.ensures.cut c.if-cut.true) mid new c.outcomes_by_values.ensures.added)
 
@@ -98,7 +98,7 @@ loop-source-preserved g t c =
     let goes : AddsEntries box old (entries c.if-cut.table) × IsSeen box place (entries c.if-cut.table) rest = elim c.if-cut.branch [
       | then-cut+then-may_complete+in_ok-end+in-Some-end w ↦
           subst (λ (es : List Entry). AddsEntries box old es × IsSeen box place es rest) (sym (ap entries w.table-is))
-          (seen_part c.laws_below.ensures box c.requires.settled.exact.contained.is_box c.events-events.ensures.sound place
+          (seen_part c.laws_below.ensures box c.requires.fixpoint.exact.contained.is_box c.events-events.ensures.sound place
           c.in-Some.ensures.observed.0 c.in-Some.ensures.observed.2 c.in-Some-split_first.source group matching c.cut.new.frame.domains
           (c.cut.ensures.cut w.if-cut.true) old mid (entries w.outcomes_by_values.new.table) c.loop-source.left rest c.difference-left.ensures
           c.loop-source.invariant.added c.loop-source.invariant.seen w.outcomes_by_values.ensures.added (w.in_ok-end.ensures.whole (ap is_some w.in-Some-end.is)))

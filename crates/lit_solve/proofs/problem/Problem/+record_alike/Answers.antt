@@ -22,12 +22,12 @@ source_there g t c =
 
 pub storing_same-group-requires-clause-source : goal.storing_same-group-requires-clause-source
 storing_same-group-requires-clause-source g t c =
-    source_known (box_of c.args.self.now c.args.frame.now) c.requires.settled.exact.contained.is_box c.in-Some.place c.from.result
+    source_known (box_of c.args.self.now c.args.frame.now) c.requires.fixpoint.exact.contained.is_box c.in-Some.place c.from.result
     c.in-Some.ensures.observed.0 (source_there g t c)
 
 pub storing_same-group-requires-clause-known : goal.storing_same-group-requires-clause-known
 storing_same-group-requires-clause-known g t c w there =
-    source_known (box_of c.args.self.now c.args.frame.now) c.requires.settled.exact.contained.is_box c.in-Some.place w
+    source_known (box_of c.args.self.now c.args.frame.now) c.requires.fixpoint.exact.contained.is_box c.in-Some.place w
     c.in-Some.ensures.observed.0 ((c.sources_left-all.ensures w).0 there)
 
 matching : (g : _) (t : _) (c : After-storing_same-group g t) → (w : ℕ) → HasEvent c.storing_same-group.result w
@@ -61,7 +61,7 @@ record_alike-requires g t c κs within =
       (
         within,
         (
-          c.cut.ensures.settled c.if-cut.true,
+          c.cut.ensures.fixpoint c.if-cut.true,
           (
             first_within box c.cut.new.frame.domains c.observe.new.values.items cut.within c.observe.ensures.first,
             (x.0, cut.retained x.0 x.1 (takes_group g t group x.0 x.1 x.2), x.2),
@@ -73,7 +73,7 @@ record_alike-requires g t c κs within =
 pub returns-then-cut-clause-added : goal.returns-then-cut-clause-added
 returns-then-cut-clause-added g t c =
     let group = (goal.at.returns-then-cut-clause-added g t c).After-storing_same-group in
-    part_adds c.laws_below.ensures (box_of c.args.self.now c.args.frame.now) c.requires.settled.exact.contained.is_box
+    part_adds c.laws_below.ensures (box_of c.args.self.now c.args.frame.now) c.requires.fixpoint.exact.contained.is_box
     c.events-events.ensures.sound c.in-Some.place c.in-Some.ensures.observed.0 c.in-Some.ensures.observed.2 c.from.result
     c.storing_same-group.result (matching g t group) c.cut.new.frame.domains (c.cut.ensures.cut c.if-cut.true)
     (g.T.OutcomeTable.entries c.args.table.now) (g.T.OutcomeTable.entries c.record_alike.new.table) c.record_alike.ensures.added

@@ -1,9 +1,9 @@
-use Rattle.lit_solve.proofs.Words.{◌<◌, ap, arith, Box, box_of, EventSet, Frame, IsContained, IsCut, IsSettled, length, not, refl, size_of}
+use Rattle.lit_solve.proofs.Words.{◌<◌, ap, arith, Box, box_of, EventSet, Frame, IsContained, IsCut, IsFixpoint, length, not, refl, size_of}
 use Rattle.lit_solve.proofs.Words.{slice_set, subst, sym, ℕ, ◌≤◌}
 use Rattle.lit_solve.proofs.DomainLemmas.{frame_at, pruned_at, pruned_contained, none_at, size_less}
 use Rattle.lit_solve.proofs.FrameLemmas.{not_true}
 use Rattle.lit_solve.proofs.PruningLemmas.{some_exactly}
-use Rattle.lit_solve.proofs.OpeningLemmas.{completion_taken, cut_on, settled_still, source_taken}
+use Rattle.lit_solve.proofs.OpeningLemmas.{completion_taken, cut_on, fixpoint_still, source_taken}
 use Rattle.lit_solve.proofs.problem.Problem.cut.Goals as goal
 use Rattle.lit_solve.proofs.problem.Problem.cut.Goals.{else-forces-via-then-forces+else-not-propagate, else-forces-via-else-forces}
 
@@ -21,7 +21,7 @@ contained c =
     let box = box_of c.args.self.now c.args.frame.now in
     let some = (some_exactly c.intersection-left.result c.is_empty.result c.is_empty.ensures).0 (ap not c.if-is_empty.false) in
     pruned_contained box c.args.place c.intersection-left.result (omega arith) (λ w there. ((c.intersection-left.ensures w).0 there).0)
-    c.args.frame.now c.requires.settled.exact.contained some
+    c.args.frame.now c.requires.fixpoint.exact.contained some
 
 pub forces-requires-clause-contained : goal.forces-requires-clause-contained
 forces-requires-clause-contained c = contained c
@@ -34,47 +34,47 @@ returns-then-not-propagate-clause-none c _ x is takes =
     c.propagate.ensures.none c.if-not-propagate.true x (completion_taken (box_of c.args.self.now c.args.frame.now) c.args.place c.args.set
     c.intersection-left.result (omega arith) c.intersection-left.ensures x is takes)
 
--- the frame is settled once more, propagated or not
-record IsResettled (old : Box) (place : ℕ) (set : EventSet) (size : ℕ) (new : Box) (frame : Frame) : Type 0 where
-  settled : IsSettled new frame
+-- the frame is at a fixpoint once more, propagated or not
+record IsFixpointAgain (old : Box) (place : ℕ) (set : EventSet) (size : ℕ) (new : Box) (frame : Frame) : Type 0 where
+  fixpoint : IsFixpoint new frame
   cut : IsCut old place set new
   small : size_of frame.domains ≤ size
 
 again : (c : goal.Joined-else-forces)
-    → IsResettled (box_of c.args.self.now c.args.frame.now) c.args.place c.args.set (size_of (slice_set c.args.frame.now.domains c.args.place c.intersection-left.result))
+    → IsFixpointAgain (box_of c.args.self.now c.args.frame.now) c.args.place c.args.set (size_of (slice_set c.args.frame.now.domains c.args.place c.intersection-left.result))
     (box_of c.args.self.now c.else-forces.frame) c.else-forces.frame
 again c =
     let box = box_of c.args.self.now c.args.frame.now in
     let place = c.args.place in
     let left = c.intersection-left in
     let room : place < length box.domains = omega arith in
-    let Resettled : Frame → Type 0 = λ frame. IsResettled box place c.args.set (size_of (slice_set c.args.frame.now.domains place left.result)) (box_of c.args.self.now frame) frame in
+    let FixpointAgain : Frame → Type 0 = λ frame. IsFixpointAgain box place c.args.set (size_of (slice_set c.args.frame.now.domains place left.result)) (box_of c.args.self.now frame) frame in
     let on = cut_on box place c.args.set left.result room left.ensures in
     elim c.else-forces.branch [
       | else-forces-via-then-forces+else-not-propagate w ↦
           let done = w.if-not-propagate.false in
-          subst Resettled (sym w.frame-is) record {
-            settled = w.propagate.ensures.settled done;
+          subst FixpointAgain (sym w.frame-is) record {
+            fixpoint = w.propagate.ensures.fixpoint done;
             cut = on (box_of c.args.self.now w.propagate.new.frame) (w.propagate.ensures.prunes done);
             small = w.propagate.ensures.size done;
           }
       | else-forces-via-else-forces w ↦
-          subst Resettled (sym w.frame-is) record {
-            settled = settled_still box c.args.frame.now c.requires.settled.exact place left.result room (λ w h. ((left.ensures w).0 h).0)
-                (contained c.before.before) (c.forces.ensures w.if-forces.false) c.requires.settled;
+          subst FixpointAgain (sym w.frame-is) record {
+            fixpoint = fixpoint_still box c.args.frame.now c.requires.fixpoint.exact place left.result room (λ w h. ((left.ensures w).0 h).0)
+                (contained c.before.before) (c.forces.ensures w.if-forces.false) c.requires.fixpoint;
             cut = on (pruned_at box place left.result) record { within = record { test = refl; combination = refl; domains = λ k v there. there }; retained = λ x is. is };
             small = omega arith;
           }
     ]
 
 pub can_fill-requires-clause-is_box : goal.can_fill-requires-clause-is_box
-can_fill-requires-clause-is_box c = (again c).settled.exact.contained.is_box
+can_fill-requires-clause-is_box c = (again c).fixpoint.exact.contained.is_box
 
 pub can_fill-requires-clause-some : goal.can_fill-requires-clause-some
-can_fill-requires-clause-some c = (again c).settled.exact.contained.some
+can_fill-requires-clause-some c = (again c).fixpoint.exact.contained.some
 
-pub returns-clause-settled : goal.returns-clause-settled
-returns-clause-settled c _ = (again c.before).settled
+pub returns-clause-fixpoint : goal.returns-clause-fixpoint
+returns-clause-fixpoint c _ = (again c.before).fixpoint
 
 pub returns-clause-cut : goal.returns-clause-cut
 returns-clause-cut c _ = (again c.before).cut
@@ -89,8 +89,8 @@ returns-clause-less c _ not_all =
 -- a completion of the box cut would fill the read
 pub returns-clause-none : goal.returns-clause-none
 returns-clause-none c failed x is takes =
-    let resettled = again c.before in
+    let fixpoint_again = again c.before in
     let now = box_of c.args.self.now c.else-forces.frame in
-    let fills = c.completions_fill_each_read.ensures now x c.byte_read-read.result.read resettled.settled.exact.contained.is_box
-    (resettled.cut.retained x is takes) c.byte_read-read.ensures.read in
+    let fills = c.completions_fill_each_read.ensures now x c.byte_read-read.result.read fixpoint_again.fixpoint.exact.contained.is_box
+    (fixpoint_again.cut.retained x is takes) c.byte_read-read.ensures.read in
     not_true c.can_fill.result failed (c.can_fill.ensures.1 fills)

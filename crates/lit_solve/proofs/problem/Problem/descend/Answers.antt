@@ -4,23 +4,23 @@ use Rattle.lit_solve.proofs.problem.Problem.descend.Goals as goal
 
 pub loop-place-preserved-in-Some : goal.loop-place-preserved-in-Some
 loop-place-preserved-in-Some c = record {
-  settled = c.loop-place.invariant.settled;
+  fixpoint = c.loop-place.invariant.fixpoint;
   alone = alone_more (box_of c.args.self.now c.loop-place.frame) c.loop-place.place c.loop-place.invariant.alone (c.in-Some._source, c.in-Some.ensures.0);
   lowest = c.loop-place.invariant.lowest;
-  sure = c.loop-place.invariant.sure;
+  solution = c.loop-place.invariant.solution;
 }
 
 pub loop-place-preserved : goal.loop-place-preserved
 loop-place-preserved c = record {
-  settled = (c.take_least.ensures.settled c.if-not-take_least.false);
+  fixpoint = (c.take_least.ensures.fixpoint c.if-not-take_least.false);
   alone =
       alone_more now c.loop-place.place
-      (alone_below_stays now was c.loop-place.place (c.take_least.ensures.lowest c.if-not-take_least.false).within (c.take_least.ensures.settled c.if-not-take_least.false).exact.contained.some
+      (alone_below_stays now was c.loop-place.place (c.take_least.ensures.lowest c.if-not-take_least.false).within (c.take_least.ensures.fixpoint c.if-not-take_least.false).exact.contained.some
       (omega (arith, below)) c.loop-place.invariant.alone) (c.take_least.ensures.alone c.if-not-take_least.false);
   lowest =
       lowest_on (box_of c.args.self.now c.args.frame.now) was now c.args.goal c.loop-place.place c.loop-place.invariant.lowest
       (c.take_least.ensures.lowest c.if-not-take_least.false) c.loop-place.invariant.alone below;
-  sure = (c.take_least.ensures.sure c.if-not-take_least.false);
+  solution = (c.take_least.ensures.solution c.if-not-take_least.false);
 }
   where
     was : Box

@@ -1,10 +1,10 @@
-use Rattle.lit_solve.proofs.Words.{AreAloneBelow, box_of, HasSolution, IsLowest, IsSettled, IsTrue}
+use Rattle.lit_solve.proofs.Words.{AreAloneBelow, box_of, HasSolution, IsLowest, IsFixpoint, IsTrue}
 use Rattle.lit_solve.proofs.problem.Problem.descend.Given as goal
 
 abbrev pub invariant-loop-place : goal.invariant-loop-place
 invariant-loop-place l = record {
-  settled : IsSettled (box_of l.self l.frame) l.frame;
+  fixpoint : IsFixpoint (box_of l.self l.frame) l.frame;
   alone : AreAloneBelow (box_of l.self l.frame) l.place;
   lowest : IsLowest (box_of l.self l.initial.frame) l.goal (box_of l.self l.frame);
-  sure : IsTrue l.sure → HasSolution (box_of l.self l.frame) l.goal;
+  solution : IsTrue l.complete → HasSolution (box_of l.self l.frame) l.goal;
 }

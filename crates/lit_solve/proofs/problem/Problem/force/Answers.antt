@@ -2,8 +2,8 @@ use Rattle.lit_solve.proofs.Words.{arith, box_of, EventSet, Forbids, IsForcedIn,
 use Rattle.lit_solve.proofs.FrameLemmas.{forced_exact, forced_sound, forced_whole, not_true}
 use Rattle.lit_solve.proofs.problem.Problem.force.Goals as goal
 
-pub returns-clause-settled : goal.returns-clause-settled
-returns-clause-settled c done =
+pub returns-clause-fixpoint : goal.returns-clause-fixpoint
+returns-clause-fixpoint c done =
     let now = c.synchronize.new.frame in
     let box = box_of c.args.self.now now in
     let forbidden = Forbids c.put_between.new.between in

@@ -5,9 +5,9 @@ use Rattle.lit_solve.proofs.problem.Problem.is_met.Goals as goal
 pub returns-then-has_completion : goal.returns-then-has_completion
 returns-then-has_completion c =
     let box = box_of c.args.self.now c.args.frame.now in
-    let exact = c.requires.settled.exact in
+    let exact = c.requires.fixpoint.exact in
     let coherent : AreCoherentSources box = λ k r b w at there. coherent_read_by (box_events box) (Holds c.args.frame.now.happens_before.rows)
-    (HappensBeforeIn box) exact.before r b w (c.requires.settled.coherent k r b w at there) in
+    (HappensBeforeIn box) exact.before r b w (c.requires.fixpoint.coherent k r b w at there) in
     let races = c.leaves_race_as_reads_are_filled.ensures box exact.contained.is_box c.requires.leaf coherent
     (c.has_completion-in-Race.ensures.0 c.if-has_completion.true) in
     let before = Holds c.args.frame.now.happens_before.rows in

@@ -19,17 +19,17 @@ loop-place-preserved c =
       contained = step.contained;
       prunes = prunes_on (box_of c.args.self.now c.args.frame.now) (box_of c.args.self.now c.loop-place.frame)
           (box_of c.args.self.now c.prune_at.new.frame) was.prunes step.prunes;
-      settled = λ none. let parts = or_parts c.loop-place.forces forces none in step.settled parts.1 (was.settled parts.0);
+      fixpoint = λ none. let parts = or_parts c.loop-place.forces forces none in step.fixpoint parts.1 (was.fixpoint parts.0);
       less = λ some. less_by c.loop-place.forces forces _ _ _ some was.less was.size step.less step.size;
       size = omega (arith, step.size, was.size);
     }
 
-pub returns-clause-settled : goal.returns-clause-settled
-returns-clause-settled c none =
-    let settled = c.loop-place.invariant.settled none in
+pub returns-clause-fixpoint : goal.returns-clause-fixpoint
+returns-clause-fixpoint c none =
+    let fixpoint = c.loop-place.invariant.fixpoint none in
     record {
-      exact = settled.exact;
-      acyclic = settled.acyclic;
+      exact = fixpoint.exact;
+      acyclic = fixpoint.acyclic;
       coherent = λ k r b w at there.
-          settled.coherent k r b w (omega (arith, slice_get_within (byte_reads (events_on c.args.self.now)) k (r, b) at)) at there;
+          fixpoint.coherent k r b w (omega (arith, slice_get_within (byte_reads (events_on c.args.self.now)) k (r, b) at)) at there;
     }

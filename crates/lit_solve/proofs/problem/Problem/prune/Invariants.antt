@@ -1,4 +1,4 @@
-use Rattle.lit_solve.proofs.Words.{◌<◌, box_of, IsContained, IsSettledBelow, IsTrue, Prunes, size_of, ◌≡◌, ◌≤◌}
+use Rattle.lit_solve.proofs.Words.{◌<◌, box_of, IsContained, IsFixpointBelow, IsTrue, Prunes, size_of, ◌≡◌, ◌≤◌}
 use Rattle.std.specs.Prelude.{IsFalse}
 use Rattle.lit_solve.proofs.problem.Problem.prune.Given as goal
 
@@ -7,7 +7,7 @@ invariant-loop-place l = record {
   before : l.frame.happens_before ≡ l.fn.frame.happens_before;
   contained : IsContained (box_of l.self l.frame) l.frame;
   prunes : Prunes (box_of l.self l.fn.frame) (box_of l.self l.frame);
-  settled : IsFalse l.forces → IsSettledBelow (box_of l.self l.frame) l.frame l.place;
+  fixpoint : IsFalse l.forces → IsFixpointBelow (box_of l.self l.frame) l.frame l.place;
   less : IsTrue l.forces → size_of l.frame.domains < size_of l.fn.frame.domains;
   size : size_of l.frame.domains ≤ size_of l.fn.frame.domains;
 }

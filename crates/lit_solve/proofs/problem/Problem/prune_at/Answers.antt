@@ -1,7 +1,7 @@
 use Rattle.lit_solve.proofs.Words.{◌<◌, ap, arith, box_of, EventSet, false≢true, HasEvent, IsContained, length, not, size_of, slice_set}
 use Rattle.lit_solve.proofs.Words.{subst, sym, ◌∙◌}
 use Rattle.lit_solve.proofs.DomainLemmas.{domain_here, frame_at, pruned_at, pruned_contained, prunes, none_if_empty, size_less}
-use Rattle.lit_solve.proofs.OpeningLemmas.{settled_below_still, settled_more}
+use Rattle.lit_solve.proofs.OpeningLemmas.{fixpoint_below_still, fixpoint_more}
 use Rattle.lit_solve.proofs.PruningLemmas.{some_exactly}
 use Rattle.lit_solve.proofs.problem.Problem.prune_at.Goals as goal
 
@@ -26,19 +26,19 @@ forces-forces-requires-clause-contained c = contained c
 pub returns-clause-contained : goal.returns-clause-contained
 returns-clause-contained c = contained c.before
 
-pub returns-then-is_within-clause-settled : goal.returns-then-is_within-clause-settled
-returns-then-is_within-clause-settled c _ was =
-    settled_more (box_of c.args.self.now c.args.frame.now) c.args.frame.now c.args.place was
+pub returns-then-is_within-clause-fixpoint : goal.returns-then-is_within-clause-fixpoint
+returns-then-is_within-clause-fixpoint c _ was =
+    fixpoint_more (box_of c.args.self.now c.args.frame.now) c.args.frame.now c.args.place was
     (λ w there. c.unpruned-left.ensures.coherent w (c.is_within.ensures.0 c.if-is_within.true w there))
 
-pub returns-clause-settled : goal.returns-clause-settled
-returns-clause-settled c idle was =
+pub returns-clause-fixpoint : goal.returns-clause-fixpoint
+returns-clause-fixpoint c idle was =
     let box = box_of c.args.self.now c.args.frame.now in
     let place = c.args.place in
     let left = c.unpruned-left.result in
     let room : place < length box.domains = omega arith in
-    settled_more (pruned_at box place left) (frame_at c.args.frame.now place left) place
-    (settled_below_still box c.args.frame.now was.exact place left room c.unpruned-left.ensures.within (contained c.before)
+    fixpoint_more (pruned_at box place left) (frame_at c.args.frame.now place left) place
+    (fixpoint_below_still box c.args.frame.now was.exact place left room c.unpruned-left.ensures.within (contained c.before)
     (c.forces-forces.ensures idle) place was)
     (λ w there. c.unpruned-left.ensures.coherent w (subst (λ (set : EventSet). HasEvent set w) (domain_here box place left room) there))
 

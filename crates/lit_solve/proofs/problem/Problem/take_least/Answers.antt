@@ -1,5 +1,5 @@
 use Rattle.lit_solve.proofs.Words.{◌∙◌, ◌≡◌, arith, Box, box_of, Execution, Frame, HasAlone, HasEvent, IsCompletion, IsCut}
-use Rattle.lit_solve.proofs.Words.{IsSettled, IsSolution, refl, slice_get, Some, split_less, subst, sym, ℕ}
+use Rattle.lit_solve.proofs.Words.{IsFixpoint, IsSolution, refl, slice_get, Some, split_less, subst, sym, ℕ}
 use Rattle.lit_solve.proofs.DescendingLemmas.{cut_alone, lowest_at}
 use Rattle.lit_solve.proofs.FrameLemmas.{not_true}
 use Rattle.lit_solve.proofs.PruningLemmas.{source_known}
@@ -9,12 +9,12 @@ use Rattle.lit_solve.proofs.problem.Problem.take_least.Goals.{Then-cut, else-cut
 
 pub set_of-requires : goal.set_of-requires
 set_of-requires c =
-    let known = source_known (box_of c.args.self.now c.args.frame.now) c.requires.settled.exact.contained.is_box c.args.place c.in-Some.source
+    let known = source_known (box_of c.args.self.now c.args.frame.now) c.requires.fixpoint.exact.contained.is_box c.args.place c.in-Some.source
     c.requires.place (c.loop-source.invariant.within c.in-Some.source c.in-Some.ensures.there) in
     omega arith
 
-pub cut-requires-clause-settled : goal.cut-requires-clause-settled
-cut-requires-clause-settled c = subst (λ (f : Frame). IsSettled (box_of c.args.self.now f) f) (sym c.loop-source.invariant.same) c.requires.settled
+pub cut-requires-clause-fixpoint : goal.cut-requires-clause-fixpoint
+cut-requires-clause-fixpoint c = subst (λ (f : Frame). IsFixpoint (box_of c.args.self.now f) f) (sym c.loop-source.invariant.same) c.requires.fixpoint
 
 -- the cut of the frame as it was
 cut_of : (c : Then-cut) → IsCut (box_of c.args.self.now c.args.frame.now) c.args.place c.set_of.result (box_of c.args.self.now c.cut.new.frame)
@@ -25,7 +25,7 @@ cut_of c =
 alone_of : (c : Then-cut) → HasAlone (box_of c.args.self.now c.cut.new.frame) c.args.place c.in-Some.source
 alone_of c =
     cut_alone (box_of c.args.self.now c.args.frame.now) (box_of c.args.self.now c.cut.new.frame) c.args.place c.in-Some.source c.set_of.result
-    (λ w. (c.set_of.ensures w).0) (cut_of c) c.requires.place (c.cut.ensures.settled c.if-cut.true).exact.contained.some
+    (λ w. (c.set_of.ensures w).0) (cut_of c) c.requires.place (c.cut.ensures.fixpoint c.if-cut.true).exact.contained.some
 
 pub returns-then-is_promising-clause-alone : goal.returns-then-is_promising-clause-alone
 returns-then-is_promising-clause-alone c _ = (c.in-Some.source, alone_of (goal.at.returns-then-is_promising-clause-alone c).Then-cut)

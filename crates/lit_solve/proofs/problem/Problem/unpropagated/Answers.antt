@@ -1,6 +1,6 @@
 use Rattle.lit_solve.proofs.Words.{[], box_with, Event, HappensBefore, Holds, length, List, rows_len, subst, ℕ, ◌↔◌, ◌≡◌}
 use Rattle.lit_solve.proofs.OpeningLemmas.{unsourced_contained}
-use Rattle.lit_solve.proofs.problem.Problem.unsettled.Goals as goal
+use Rattle.lit_solve.proofs.problem.Problem.unpropagated.Goals as goal
 
 pub returns-clause-contained : goal.returns-clause-contained
 returns-clause-contained c =

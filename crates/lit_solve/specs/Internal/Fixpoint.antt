@@ -1,4 +1,4 @@
--- Settled frames: propagation has nothing more to force.
+-- Frames at the fixpoint of propagation: it has nothing more to force.
 use Rattle.std.specs.Prelude.{◌≡◌, ℕ, ◌<◌, Some, slice_get}
 use Rattle.lit_paths.specs.ByteReads.{byte_reads}
 use Rattle.lit_paths.specs.Execution.{Execution}
@@ -13,13 +13,13 @@ use Rattle.lit_solve.specs.Given.{IsForcedIn}
 use Rattle.lit_solve.specs.Internal.Frames.{AreCoherentAt, IsExact}
 
 -- The frame's relations are those of its box, what is forced is acyclic, and each source in a domain is coherent for its byte read.
-pub record IsSettled (box : Box) (frame : Frame) : Type 0 where
+pub record IsFixpoint (box : Box) (frame : Frame) : Type 0 where
   pub exact : IsExact box frame
   pub acyclic : (e : ℕ) → ¬ IsForcedIn box e e
   pub coherent : AreCoherentAt box frame
 
--- settled, but only the byte reads before the n-th are sure to be coherent with each source in their domains
-pub record IsSettledBelow (box : Box) (frame : Frame) (n : ℕ) : Type 0 where
+-- at the fixpoint, but only the byte reads before the n-th are known to be coherent with each source in their domains
+pub record IsFixpointBelow (box : Box) (frame : Frame) (n : ℕ) : Type 0 where
   pub exact : IsExact box frame
   pub acyclic : (e : ℕ) → ¬ IsForcedIn box e e
   pub coherent : (k r b w : ℕ) → k < n → slice_get (byte_reads (box_events box)) k ≡ Some (r, b) → HasSource box k w
