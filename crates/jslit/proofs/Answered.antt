@@ -5,11 +5,11 @@ use Rattle.clap.specs.Words.{HasKind, IsAmong, Kinds, Text, kind_of}
 use Rattle.clap.specs.declared.error.Error.{Error}
 use Rattle.clap.specs.declared.error.kind.ErrorKind.{ErrorKind}
 use Rattle.clap.specs.declared.error.kind.ErrorKind.TheVariants as kinds
-use Rattle.lit_words.specs.declared.asked_line.Line.{Line}
+use Rattle.lit_words.specs.declared.command_line.Line.{Line}
 use Rattle.lit_print.specs.declared.counted.Counted.{Counted}
 use Rattle.jslit.specs.Answer.{IsCheckStatus}
 use Rattle.lit_print.specs.Counted.{device_of, failures_of}
-use Rattle.jslit.specs.Devices.{OfToldText}
+use Rattle.jslit.specs.Devices.{OfInputText}
 use Rattle.lit_words.specs.Answered.{IsExplained}
 use Rattle.jslit.specs.declared.fault.RunFault.{RunFault}
 use Rattle.jslit.specs.ProgramAnswer.{HasAnswered, IsAnswerBy, IsFaultBy}
@@ -18,8 +18,8 @@ use Rattle.jslit.proofs.Finishing.{nothing_served}
 use Rattle.lit_words.specs.Words.{AsksHelp, AsksRun, AsksVersion, IsAsked, IsRefused, faults_of, file_in, quick_in, schedule_in}
 
 -- what holds on a text that is told holds on some text
-on_some_text : (told : Option (List ℕ)) (Holds : List ℕ → Type 0) → OfToldText told Holds → OfToldText None Holds
-on_some_text told Holds on = record { text = on.text; is_told = tt; holds = on.holds }
+on_some_text : (told : Option (List ℕ)) (Holds : List ℕ → Type 0) → OfInputText told Holds → OfInputText None Holds
+on_some_text told Holds on = record { text = on.text; is_input = tt; holds = on.holds }
 
 -- where it is not known whether the reader failed, a run that failed wrote nothing, or its writer failed, or its answer is whole
 module _ {W : Type 0} (contents : W → Option (List ℕ)) where

@@ -6,9 +6,9 @@ use Rattle.std.proofs.lemmas.Bool.{cases_lt}
 use Rattle.std.proofs.KnownBytes.{Appends-kept}
 use Rattle.jslit.specs.Answer.{HasGrown, HasGrownSome, HasGrownRefusal, IsCheckStatus, status_of}
 use Rattle.lit_print.specs.Counted.{device_of, failures_of}
-use Rattle.jslit.specs.Devices.{OfToldText}
+use Rattle.jslit.specs.Devices.{OfInputText}
 use Rattle.jslit.specs.RunAnswer.{HasRun, HasSaid, HasServed}
-use Rattle.jslit.specs.Internal.Saying.{IsSaid}
+use Rattle.jslit.specs.Internal.Saying.{IsFaultSaid}
 use Rattle.lit_print.specs.declared.counted.Counted.{Counted}
 use Rattle.jslit.specs.declared.fault.RunFault.{RunFault}
 use Rattle.jslit.specs.declared.fault.RunFault.TheVariants as faults
@@ -20,13 +20,13 @@ module _ {W : Type 0} (contents : W → Option (List ℕ)) (remaining : Option (
   Flushed = ((status ≡ 0) ⊎ (status ≡ 4)) × Keeps (contents (device_of mid)) (contents (device_of new))
 
   abbrev Answers : Type 0
-  Answers = OfToldText remaining (λ text. HasGrown (Is text) (contents (device_of old)) (contents (device_of mid)))
+  Answers = OfInputText remaining (λ text. HasGrown (Is text) (contents (device_of old)) (contents (device_of mid)))
 
   -- a flushed answer is still there
-  flushed_answer : Answers → Flushed → OfToldText remaining (λ text. HasGrown (Is text) (contents (device_of old)) (contents (device_of new)))
+  flushed_answer : Answers → Flushed → OfInputText remaining (λ text. HasGrown (Is text) (contents (device_of old)) (contents (device_of new)))
   flushed_answer told flushed = record {
     text = told.text;
-    is_told = told.is_told;
+    is_input = told.is_input;
     holds = record {
       answer = told.holds.answer;
       on = told.holds.on;
@@ -34,14 +34,14 @@ module _ {W : Type 0} (contents : W → Option (List ℕ)) (remaining : Option (
     };
   }
 
-  finished_answer : {X : Type 0} (ran : Result X RunFault) → OnOk ran Answers → OnOk ran Flushed → IfErr ran (IsSaid contents status mid new)
-      → status ≡ 0 → OfToldText remaining (λ text. HasGrown (Is text) (contents (device_of old)) (contents (device_of new)))
+  finished_answer : {X : Type 0} (ran : Result X RunFault) → OnOk ran Answers → OnOk ran Flushed → IfErr ran (IsFaultSaid contents status mid new)
+      → status ≡ 0 → OfInputText remaining (λ text. HasGrown (Is text) (contents (device_of old)) (contents (device_of new)))
   finished_answer (Ok u) told flushed said is = flushed_answer told flushed
   finished_answer (Err fault) told flushed said is = absurd (never_zero fault (sym said.status_is ∙ is))
 
-  finished_refusal : {X : Type 0} (ran : Result X RunFault) → OnOk ran Flushed → IfErr ran (λ fault. OfToldText remaining (λ text. IsFault text fault))
-      → IfErr ran (λ fault. fault ≢ faults.OutputFailed → mid ≡ old) → IfErr ran (IsSaid contents status mid new) → status ≡ 1
-      → OfToldText remaining (λ text. HasGrownRefusal (IsFault text) (contents (device_of old)) (contents (device_of new)) (failures_of old < failures_of new))
+  finished_refusal : {X : Type 0} (ran : Result X RunFault) → OnOk ran Flushed → IfErr ran (λ fault. OfInputText remaining (λ text. IsFault text fault))
+      → IfErr ran (λ fault. fault ≢ faults.OutputFailed → mid ≡ old) → IfErr ran (IsFaultSaid contents status mid new) → status ≡ 1
+      → OfInputText remaining (λ text. HasGrownRefusal (IsFault text) (contents (device_of old)) (contents (device_of new)) (failures_of old < failures_of new))
   finished_refusal (Ok u) flushed refused unwritten said is = elim flushed.0 [
     | inl zero ↦ absurd (omega (arith, zero, is))
     | inr four ↦ absurd (omega (arith, four, is))
@@ -53,28 +53,28 @@ module _ {W : Type 0} (contents : W → Option (List ℕ)) (remaining : Option (
       subst (λ (o : Counted W). HasSaid fault (contents (device_of o)) (contents (device_of new)) (failures_of o < failures_of new)) same (said.refused is) in
       record {
         text = refused.text;
-        is_told = refused.is_told;
+        is_input = refused.is_input;
         holds = record { fault = fault; refusal = refusal; on = refused.holds; written = line.written; begun = line.begun };
       }
 
-  finished_failure : {X : Type 0} (Input : Type 0) (ran : Result X RunFault) → OnOk ran Answers → OnOk ran Flushed → IfErr ran (IsSaid contents status mid new)
+  finished_failure : {X : Type 0} (Input : Type 0) (ran : Result X RunFault) → OnOk ran Answers → OnOk ran Flushed → IfErr ran (IsFaultSaid contents status mid new)
       → (IsErrOf ran faults.InputFailed → Input) → (IsErrOf ran faults.OutputFailed → failures_of old < failures_of mid) → status ≡ 4
-      → Input ⊎ (failures_of old < failures_of new) ⊎ OfToldText remaining (λ text. HasGrown (Is text) (contents (device_of old)) (contents (device_of new)))
+      → Input ⊎ (failures_of old < failures_of new) ⊎ OfInputText remaining (λ text. HasGrown (Is text) (contents (device_of old)) (contents (device_of new)))
   finished_failure Input (Ok u) told flushed said input output is = inr (inr (flushed_answer told flushed))
   finished_failure Input (Err fault) told flushed said input output is =
       let same = said.unchanged (λ one. absurd (omega (arith, is, one))) in
       failed_device fault _ (sym said.status_is ∙ is) (λ of_input. inl (input (ap Err of_input)))
       (λ of_output. inr (inl (subst (λ (o : Counted W). failures_of old < failures_of o) (sym same) (output (ap Err of_output)))))
 
-  finished_beginning : {X : Type 0} (ran : Result X RunFault) → OnOk ran Answers → OnOk ran Flushed → IfErr ran (IsSaid contents status mid new)
+  finished_beginning : {X : Type 0} (ran : Result X RunFault) → OnOk ran Answers → OnOk ran Flushed → IfErr ran (IsFaultSaid contents status mid new)
       → IfErr ran (λ fault. fault ≢ faults.OutputFailed → mid ≡ old)
-      → (IsErrOf ran faults.OutputFailed → OfToldText remaining (λ text. HasGrownSome (Is text) (contents (device_of old)) (contents (device_of mid)))) → status ≡ 4
-      → (new ≡ old) ⊎ OfToldText remaining (λ text. HasGrownSome (Is text) (contents (device_of old)) (contents (device_of new)))
+      → (IsErrOf ran faults.OutputFailed → OfInputText remaining (λ text. HasGrownSome (Is text) (contents (device_of old)) (contents (device_of mid)))) → status ≡ 4
+      → (new ≡ old) ⊎ OfInputText remaining (λ text. HasGrownSome (Is text) (contents (device_of old)) (contents (device_of new)))
   finished_beginning (Ok u) told flushed said unwritten begun is =
       let unchanged = flushed_answer told flushed in
       inr (record {
         text = unchanged.text;
-        is_told = unchanged.is_told;
+        is_input = unchanged.is_input;
         holds = record { answer = unchanged.holds.answer; on = unchanged.holds.on; begun = whole_is_beginning _ _ unchanged.holds.answer unchanged.holds.written };
       })
   finished_beginning (Err fault) told flushed said unwritten begun is =
@@ -85,13 +85,13 @@ module _ {W : Type 0} (contents : W → Option (List ℕ)) (remaining : Option (
       let some = begun (ap Err of_output) in
       inr (record {
         text = some.text;
-        is_told = some.is_told;
+        is_input = some.is_input;
         holds = record { answer = some.holds.answer; on = some.holds.on; begun = rw same some.holds.begun };
       }))
 
   -- no write failed where the answer is whole
   finished_unfailed : {X : Type 0} (ran : Result X RunFault) → (failures_of old < failures_of mid → IsErrOf ran faults.OutputFailed) → failures_of old ≤ failures_of mid
-      → OnOk ran (failures_of new ≡ failures_of mid) → IfErr ran (IsSaid contents status mid new) → status ≡ 0 → failures_of new ≡ failures_of old
+      → OnOk ran (failures_of new ≡ failures_of mid) → IfErr ran (IsFaultSaid contents status mid new) → status ≡ 0 → failures_of new ≡ failures_of old
   finished_unfailed (Ok u) failed count unchanged said is = elim (cases_lt (failures_of old) (failures_of mid)) [
     | inl lt ↦
         let bad : Ok u ≡ Err faults.OutputFailed = failed lt in
@@ -104,7 +104,7 @@ module _ {W : Type 0} (contents : W → Option (List ℕ)) (remaining : Option (
 
   -- where the input failed, nothing was written
   finished_unwritten : {X : Type 0} (ran : Result X RunFault) → IsErrOf ran faults.InputFailed → IfErr ran (λ fault. fault ≢ faults.OutputFailed → mid ≡ old)
-      → IfErr ran (IsSaid contents status mid new) → (status ≡ 4) × (new ≡ old)
+      → IfErr ran (IsFaultSaid contents status mid new) → (status ≡ 4) × (new ≡ old)
   finished_unwritten (Ok u) is unwritten said = let bad : Ok u ≡ Err faults.InputFailed = is in absurd cc
   finished_unwritten (Err fault) is unwritten said =
       let same : fault ≡ faults.InputFailed = cc in
@@ -118,7 +118,7 @@ pub finished : {R W X : Type 0} (remaining : R → Option (List ℕ)) (contents 
     (ran : Result X RunFault) (old_input new_input : Counted R) (old mid new : Counted W) (status : ℕ)
     → HasRun remaining contents Is IsFault ran old_input new_input old mid → OnOk ran (failures_of new ≡ failures_of mid)
     → OnOk ran (((status ≡ 0) ⊎ (status ≡ 4)) × Keeps (contents (device_of mid)) (contents (device_of new)))
-    → IfErr ran (IsSaid contents status mid new)
+    → IfErr ran (IsFaultSaid contents status mid new)
     → HasServed contents (remaining (device_of old_input)) (failures_of old_input < failures_of new_input) Is IsFault status old new
 finished remaining contents Is IsFault ran old_input new_input old mid new status run counted flushed said =
     let told = remaining (device_of old_input) in record {
@@ -147,7 +147,7 @@ nothing_served contents told input_failed Is IsFault status old new is unfailed 
 -- a run that is finished has a status of checking a text
 pub finished_status : {W X : Type 0} (contents : W → Option (List ℕ)) (ran : Result X RunFault) (mid new : Counted W) (status : ℕ)
     → OnOk ran (((status ≡ 0) ⊎ (status ≡ 4)) × Keeps (contents (device_of mid)) (contents (device_of new)))
-    → IfErr ran (IsSaid contents status mid new)
+    → IfErr ran (IsFaultSaid contents status mid new)
     → IsCheckStatus status
 finished_status contents (Ok u) mid new status flushed said = elim flushed.0 [ inl zero ↦ inl zero | inr four ↦ inr (inr (inr four)) ]
 finished_status contents (Err fault) mid new status flushed said = check_status_of fault status said.status_is
@@ -155,7 +155,7 @@ finished_status contents (Err fault) mid new status flushed said = check_status_
 -- where memory ran out, the output is as it was
 pub finished_memory : {W X : Type 0} (contents : W → Option (List ℕ)) (ran : Result X RunFault) (old mid new : Counted W) (status : ℕ)
     → OnOk ran (((status ≡ 0) ⊎ (status ≡ 4)) × Keeps (contents (device_of mid)) (contents (device_of new)))
-    → IfErr ran (IsSaid contents status mid new)
+    → IfErr ran (IsFaultSaid contents status mid new)
     → IfErr ran (λ fault. fault ≢ faults.OutputFailed → mid ≡ old) → status ≡ 3 → new ≡ old
 finished_memory contents (Ok u) old mid new status flushed said unwritten is = elim flushed.0 [
   | inl zero ↦ absurd (omega (arith, zero, is))

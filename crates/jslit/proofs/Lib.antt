@@ -4,7 +4,7 @@ pub mod Judging
 pub mod Refusals
 pub mod Completeness
 pub mod TestAnswers
-pub mod Told
+pub mod InputText
 pub mod QuickAnswers
 pub mod OneAnswer
 pub mod Schedules

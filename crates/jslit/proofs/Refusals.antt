@@ -11,7 +11,7 @@ use Rattle.lit_paths.specs.declared.limits.TheConstants.{CHOICE_LIMIT, COMBINATI
 use Rattle.jslit.specs.declared.fault.RunFault.{RunFault}
 use Rattle.jslit.specs.declared.fault.RunFault.TheVariants as faults
 use Rattle.jslit.specs.Answer.{IsFaultOn}
-use Rattle.jslit.specs.Devices.{OfToldText}
+use Rattle.jslit.specs.Devices.{OfInputText}
 use Rattle.jslit.specs.Internal.Answering.{IsOfTextOrWriting, IsOfWriting}
 
 -- a test within the limits is refused for none of them
@@ -22,9 +22,9 @@ not_refused t few_events few_paths few_choices plan_faults.TooManyChoices (few, 
 not_refused t few_events few_paths few_choices plan_faults.OutOfMemory refused = refused
 
 -- what holds of each text holds of the one that is told
-pub of_any_text : (remaining : Option (List ℕ)) (Holds : List ℕ → Type 0) → ((text : List ℕ) → Holds text) → OfToldText remaining Holds
-of_any_text None Holds holds = record { text = []; is_told = tt; holds = holds [] }
-of_any_text (Some bytes) Holds holds = record { text = take (TEXT_LIMIT + 1) bytes; is_told = refl; holds = holds (take (TEXT_LIMIT + 1) bytes) }
+pub of_any_text : (remaining : Option (List ℕ)) (Holds : List ℕ → Type 0) → ((text : List ℕ) → Holds text) → OfInputText remaining Holds
+of_any_text None Holds holds = record { text = []; is_input = tt; holds = holds [] }
+of_any_text (Some bytes) Holds holds = record { text = take (TEXT_LIMIT + 1) bytes; is_input = refl; holds = holds (take (TEXT_LIMIT + 1) bytes) }
 
 -- what an error ensures holds where there is one
 pub on_err : {X : Type 0} (r : Result X RunFault) (fault : RunFault) (A : Type 0) → OnErr r A → IsErrOf r fault → A

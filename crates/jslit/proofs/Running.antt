@@ -6,7 +6,7 @@ use Rattle.std.specs.Result.{IsErrAnd}
 use Rattle.lit_syntax.specs.declared.limits.TheConstants.{TEXT_LIMIT}
 use Rattle.jslit.specs.Answer.{HasGrown, HasGrownSome}
 use Rattle.lit_print.specs.Counted.{device_of, failures_of, one_more}
-use Rattle.jslit.specs.Devices.{ConsumesBeginning, ConsumesTold, IsReadFailure, IsTold}
+use Rattle.jslit.specs.Devices.{ConsumesBeginning, ConsumesText, IsReadFailure, IsInputText}
 use Rattle.jslit.specs.RunAnswer.{HasRun}
 use Rattle.jslit.specs.Internal.Answering.{IsOfTextOrWriting}
 use Rattle.lit_print.specs.declared.counted.Counted.{Counted}
@@ -15,9 +15,9 @@ use Rattle.jslit.specs.declared.fault.RunFault.TheVariants as faults
 use Rattle.jslit.proofs.Refusals.{of_any_text}
 
 -- a text that was told was consumed as told
-whole_told : (old new : Option (List ℕ)) (text : List ℕ) → IsTold old text → Consumes old new text → ConsumesTold old new
-whole_told None new text told consumes = tt
-whole_told (Some bytes) new text told consumes = subst (λ (front : List ℕ). Consumes (Some bytes) new front) told consumes
+whole_input : (old new : Option (List ℕ)) (text : List ℕ) → IsInputText old text → Consumes old new text → ConsumesText old new
+whole_input None new text told consumes = tt
+whole_input (Some bytes) new text told consumes = subst (λ (front : List ℕ). Consumes (Some bytes) new front) told consumes
 
 output_or_not : (e : RunFault) → (e ≡ faults.OutputFailed) ⊎ (e ≢ faults.OutputFailed)
 output_or_not faults.OutputFailed = inl refl
@@ -65,7 +65,7 @@ module _ {R W X : Type 0} (remaining : R → Option (List ℕ)) (contents : W �
       by faults.OutputFailed is failed = absurd failed
 
   -- a text was read, and answered on
-  module _ (text : List ℕ) (old_input new_input : Counted R) (old new : Counted W) (told : IsTold (remaining (device_of old_input)) text)
+  module _ (text : List ℕ) (old_input new_input : Counted R) (old new : Counted W) (told : IsInputText (remaining (device_of old_input)) text)
       (consumes : Consumes (remaining (device_of old_input)) (remaining (device_of new_input)) text) (same : failures_of new_input ≡ failures_of old_input)
       (consumed : ConsumesBeginning (remaining (device_of old_input)) (remaining (device_of new_input)) (TEXT_LIMIT + 1)) where
     pub ran : (result : Result X RunFault) → failures_of old < 2 ^ 64 - 1
@@ -75,7 +75,7 @@ module _ {R W X : Type 0} (remaining : R → Option (List ℕ)) (contents : W �
         → IfErr result (λ fault. fault ≢ faults.OutputFailed → new ≡ old) → IfErr result (IsFault text) → IfErr result IsOfTextOrWriting
         → HasRun remaining contents Is IsFault result old_input new_input old new
     ran (Ok x) small grown count begun rose unwritten refused of_text = record {
-      answered = record { text = text; is_told = told; holds = grown };
+      answered = record { text = text; is_input = told; holds = grown };
       refused = tt;
       input_failed = (λ bad. absurd cc, λ lt. absurd (omega (arith, same, lt)));
       output_failed = (λ bad. absurd cc, λ lt. absurd (omega (arith, count, lt)));
@@ -84,26 +84,26 @@ module _ {R W X : Type 0} (remaining : R → Option (List ℕ)) (contents : W �
       begun = λ bad. absurd cc;
       unwritten = tt;
       consumed = consumed;
-      whole = λ _ _. whole_told _ _ text told consumes;
+      whole = λ _ _. whole_input _ _ text told consumes;
     }
     ran (Err e) small grown count begun rose unwritten refused of_text = elim (output_or_not e) [
       | inl is ↦
           let more : failures_of new ≡ one_more (failures_of old) = rose (ap Err is) in record {
             answered = tt;
-            refused = record { text = text; is_told = told; holds = refused };
+            refused = record { text = text; is_input = told; holds = refused };
             input_failed = (λ bad. absurd cc, λ lt. absurd (omega (arith, same, lt)));
             output_failed = (λ _. omega (arith, more, small), λ _. ap Err is);
             input_count = omega (arith, same);
             output_count = omega (arith, more, small);
-            begun = λ bad. record { text = text; is_told = told; holds = begun bad };
+            begun = λ bad. record { text = text; is_input = told; holds = begun bad };
             unwritten = unwritten;
             consumed = consumed;
-            whole = λ _ _. whole_told _ _ text told consumes;
+            whole = λ _ _. whole_input _ _ text told consumes;
           }
       | inr other ↦
           let unchanged : failures_of new ≡ failures_of old = ap failures_of (unwritten other) in record {
             answered = tt;
-            refused = record { text = text; is_told = told; holds = refused };
+            refused = record { text = text; is_input = told; holds = refused };
             input_failed = (
               λ bad. let is : e ≡ faults.InputFailed = cc in absurd (subst IsOfTextOrWriting is of_text),
               λ lt. absurd (omega (arith, same, lt)),
@@ -114,6 +114,6 @@ module _ {R W X : Type 0} (remaining : R → Option (List ℕ)) (contents : W �
             begun = λ bad. let is : e ≡ faults.OutputFailed = cc in absurd (other is);
             unwritten = unwritten;
             consumed = consumed;
-            whole = λ _ _. whole_told _ _ text told consumes;
+            whole = λ _ _. whole_input _ _ text told consumes;
           }
     ]

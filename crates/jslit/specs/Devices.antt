@@ -6,18 +6,18 @@ use Rattle.lit_syntax.specs.declared.limits.TheConstants.{TEXT_LIMIT}
 use Rattle.jslit.specs.declared.fault.RunFault.{RunFault}
 use Rattle.jslit.specs.declared.fault.RunFault.TheVariants.{InputFailed, OutOfMemory}
 
--- the bytes that a reader tells: up to its end, or to one more than a text may have
-abbrev pub told : Option (List ℕ) → Option (List ℕ)
-told remaining = option_map (take (TEXT_LIMIT + 1)) remaining
+-- of the bytes that a reader has left, where they are known, those that a run reads: all, or one more than a text may have
+abbrev pub input_text : Option (List ℕ) → Option (List ℕ)
+input_text remaining = option_map (take (TEXT_LIMIT + 1)) remaining
 
--- where the reader tells bytes, the text is those
-abbrev pub IsTold : Option (List ℕ) → List ℕ → Type 0
-IsTold remaining text = IfSome (told remaining) (λ bytes. text ≡ bytes)
+-- where the bytes that a run reads are known, the text is those
+abbrev pub IsInputText : Option (List ℕ) → List ℕ → Type 0
+IsInputText remaining text = IfSome (input_text remaining) (λ bytes. text ≡ bytes)
 
--- there is a text of which this holds, and where the reader tells bytes, it is those
-pub record OfToldText (remaining : Option (List ℕ)) (Holds : List ℕ → Type 0) : Type 0 where
+-- there is a text of which this holds, and where the bytes that a run reads are known, it is those
+pub record OfInputText (remaining : Option (List ℕ)) (Holds : List ℕ → Type 0) : Type 0 where
   pub text : List ℕ
-  pub is_told : IsTold remaining text
+  pub is_input : IsInputText remaining text
   pub holds : Holds text
 
 -- known bytes lose a beginning of at most so many
@@ -26,9 +26,9 @@ pub record ConsumesBeginning (old new : Option (List ℕ)) (limit : ℕ) : Type 
   pub few : length front ≤ limit
   pub consumed : Consumes old new front
 
--- known bytes lose those that are told, and no more
-abbrev pub ConsumesTold : Option (List ℕ) → Option (List ℕ) → Type 0
-ConsumesTold old new = IfSome (told old) (Consumes old new)
+-- known bytes lose those that a run reads, and no more
+abbrev pub ConsumesText : Option (List ℕ) → Option (List ℕ) → Type 0
+ConsumesText old new = IfSome (input_text old) (Consumes old new)
 
 -- the input's count of failures rose, or memory ran out and the count stayed
 abbrev pub IsReadFailure : (before after : ℕ) → RunFault → Type 0

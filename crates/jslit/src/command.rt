@@ -7,7 +7,7 @@ ghost use Rattle.lit_print.specs.Counted.{device_of, failures_of};
 ghost use Rattle.jslit.specs.InterleavingAnswer.{IsInterleavingOn, IsScheduleFaultOn};
 ghost use Rattle.jslit.specs.ProgramAnswer.{HasAnswered, IsAnswerBy, IsFaultBy};
 ghost use Rattle.jslit.specs.RunAnswer.{HasSaid, HasServed};
-ghost use Rattle.jslit.specs.Internal.Saying.{IsSaid};
+ghost use Rattle.jslit.specs.Internal.Saying.{IsFaultSaid};
 
 use crate::engine::workers::passes;
 use crate::engine::{run_alone, run_watched};
@@ -205,7 +205,7 @@ fn finish<W: Write, E: Write>(
     ensures counted { OnOk ran (failures_of output.new ≡ failures_of output.old) }
     ensures flushed { OnOk ran
         (((result ≡ 0) ⊎ (result ≡ 4)) × Keeps (W.contents (device_of output.old)) (W.contents (device_of output.new))) }
-    ensures said { IfErr ran (IsSaid W.contents result output.old output.new) }
+    ensures said { IfErr ran (IsFaultSaid W.contents result output.old output.new) }
 {
     match ran {
         Ok(()) => match output.flush() {

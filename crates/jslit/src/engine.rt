@@ -2,8 +2,8 @@
 
 mod alone;
 mod answering;
-mod few_steps;
 mod cutting;
+mod few_steps;
 pub(crate) mod printing;
 pub(crate) mod workers;
 

@@ -3,7 +3,7 @@
 ghost use Rattle.std.specs.Prelude.{◌≡◌, ◌+◌, ◌-◌, ◌^◌, ◌<◌, ◌≤◌, length, vec_len, IfOk, OnOk, IfErr};
 ghost use Rattle.std.specs.Io.KnownBytes.{Consumes};
 ghost use Rattle.lit_print.specs.Counted.{device_of, failures_of};
-ghost use Rattle.jslit.specs.Devices.{ConsumesBeginning, IsReadFailure, IsTold};
+ghost use Rattle.jslit.specs.Devices.{ConsumesBeginning, IsReadFailure, IsInputText};
 ghost use Rattle.jslit.specs.Internal.Reading.{HasRead};
 
 use crate::fault::RunFault;
@@ -46,7 +46,7 @@ fn read_some<R: Read>(
 /// `RunFault::InputFailed` where a read failed, and `RunFault::OutOfMemory` where a growth was refused.
 pub fn read_text<R: Read>(alloc: Global, input: &mut Counted<R>) -> Result<Vec<u8>, RunFault>
     requires { failures_of input.old < 2 ^ 64 - 1 }
-    ensures text { IfOk result (λ text. IsTold (R.remaining (device_of input.old)) text.items) }
+    ensures text { IfOk result (λ text. IsInputText (R.remaining (device_of input.old)) text.items) }
     ensures whole { IfOk result (λ text. Consumes (R.remaining (device_of input.old)) (R.remaining (device_of input.new)) text.items) }
     ensures not_failed { OnOk result (failures_of input.new ≡ failures_of input.old) }
     ensures consumed { ConsumesBeginning (R.remaining (device_of input.old)) (R.remaining (device_of input.new)) (TEXT_LIMIT + 1) }

@@ -3,7 +3,7 @@ use Rattle.std.specs.Prelude.{◌≡◌, ◌⊎◌, ◌++◌, ℕ, List, Some, l
 use Rattle.jslit.specs.declared.fault.RunFault.{RunFault}
 use Rattle.jslit.specs.Answer.{status_of}
 use Rattle.jslit.specs.RefusalText.{refusal_line}
-use Rattle.jslit.specs.Devices.{OfToldText}
+use Rattle.jslit.specs.Devices.{OfInputText}
 
 -- The answer stands at the beginning of the room, as far as it fits; behind it the room is as it was. The count is the whole answer's.
 pub record HandsOut (answer old new : List ℕ) (count : ℕ) : Type 0 where
@@ -29,11 +29,11 @@ pub record HandsLine (IsFault : RunFault → Type 0) (old new : List ℕ) (count
 
 -- an answer on the text: on its beginning, where it is longer than a text may be
 abbrev pub HandsAnswer : (IsAnswer : (text answer : List ℕ) → Type 0) → (text old new : List ℕ) → (count : ℕ) → Type 0
-HandsAnswer IsAnswer text old new count = OfToldText (Some text) (λ told. HandsSome (IsAnswer told) old new count)
+HandsAnswer IsAnswer text old new count = OfInputText (Some text) (λ told. HandsSome (IsAnswer told) old new count)
 
 -- a refusal of the text, in the same sense
 abbrev pub HandsRefusal : (IsFault : (text : List ℕ) → RunFault → Type 0) → (text old new : List ℕ) → (count : ℕ) → Type 0
-HandsRefusal IsFault text old new count = OfToldText (Some text) (λ told. HandsLine (IsFault told) old new count)
+HandsRefusal IsFault text old new count = OfInputText (Some text) (λ told. HandsLine (IsFault told) old new count)
 
 -- what a call can give as a status
 abbrev pub IsEmbedStatus : ℕ → Type 0

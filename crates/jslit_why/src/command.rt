@@ -3,7 +3,7 @@
 ghost use Rattle.std.specs.Prelude.{◌≡◌, ◌⊎◌, ◌<◌, ◌^◌, ◌-◌, IsFalse, IsTrue, true};
 ghost use Rattle.std.specs.Io.KnownBytes.{Appends};
 ghost use Rattle.jslit.specs.Answer.{IsStatus};
-ghost use Rattle.jslit.specs.Devices.{OfToldText};
+ghost use Rattle.jslit.specs.Devices.{OfInputText};
 ghost use Rattle.jslit_why.specs.Printed.{HasBegun, HasExplained, HasRefused};
 ghost use Rattle.lit_print.specs.Counted.{device_of, failures_of};
 ghost use Rattle.lit_print.specs.Writing.{AppendsBeginning};
@@ -61,14 +61,14 @@ fn answer<R: Read, W: Write, E: Write>(
     requires input { failures_of input.old < 2 ^ 64 - 1 }
     requires output { failures_of output.old < 2 ^ 64 - 1 }
     ensures status { IsStatus result }
-    ensures answered { result ≡ 0 → OfToldText (R.remaining (device_of input.old))
+    ensures answered { result ≡ 0 → OfInputText (R.remaining (device_of input.old))
         (λ text. HasExplained W.contents text asked.now true output.old output.new) }
-    ensures refused { result ≡ 1 → OfToldText (R.remaining (device_of input.old))
+    ensures refused { result ≡ 1 → OfInputText (R.remaining (device_of input.old))
         (λ text. HasRefused W.contents text asked.now output.old output.new) }
-    ensures other { result ≡ 2 → OfToldText (R.remaining (device_of input.old)) (λ text. HasOtherCondition text asked.now)
+    ensures other { result ≡ 2 → OfInputText (R.remaining (device_of input.old)) (λ text. HasOtherCondition text asked.now)
         × (output.new ≡ output.old) }
     ensures memory { result ≡ 3 → output.new ≡ output.old }
-    ensures begun { result ≡ 4 → (output.new ≡ output.old) ⊎ OfToldText (R.remaining (device_of input.old))
+    ensures begun { result ≡ 4 → (output.new ≡ output.old) ⊎ OfInputText (R.remaining (device_of input.old))
         (λ text. HasBegun W.contents text asked.now output.old output.new) }
 {
     match read_text(alloc, input) {

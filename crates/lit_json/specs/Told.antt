@@ -119,8 +119,8 @@ IsOfText true text test counts fault = IsAllowed text test counts fault
 IsOfText false text test counts fault = IsTooLarge text test counts fault ⊎ IsFaulty text test counts fault
 
 -- the JSON with these members
-abbrev pub told_data : (version : List ℕ) → (test counts fault : Data) → Data
-told_data version test counts fault = object
+abbrev pub description : (version : List ℕ) → (test counts fault : Data) → Data
+description version test counts fault = object
     (member (codes "counts") counts
     (member (codes "fault") fault
     (member (codes "form") (count 1)
@@ -130,9 +130,9 @@ told_data version test counts fault = object
     no_members))))))
 
 -- what the JSON says of the text, and whether that spells a test within the limits
-pub record IsTold (version text : List ℕ) (allowed : Bool) (value : Data) : Type 0 where
+pub record Describes (version text : List ℕ) (allowed : Bool) (value : Data) : Type 0 where
   pub test : Data
   pub counts : Data
   pub fault : Data
   pub of_text : IsOfText allowed text test counts fault
-  pub is : value ≡ told_data version test counts fault
+  pub is : value ≡ description version test counts fault

@@ -3,7 +3,7 @@
 ghost use Rattle.std.specs.Prelude.{◌≡◌, IfOk, true, false};
 ghost use Rattle.serde_json.specs.View.{view};
 ghost use Rattle.lit_read.specs.Spelling.{Spells};
-ghost use Rattle.lit_json.specs.Told.{IsTold, told_data};
+ghost use Rattle.lit_json.specs.Told.{Describes, description};
 
 use crate::counts::counts_value;
 use crate::faults::{plan_fault_value, read_fault_value};
@@ -34,7 +34,7 @@ fn told(
     counts: Value,
     fault: Value,
 ) -> Result<Value, AllocError>
-    ensures { IfOk result (λ v. view v ≡ told_data version.now (view test) (view counts) (view fault)) }
+    ensures { IfOk result (λ v. view v ≡ description version.now (view test) (view counts) (view fault)) }
 {
     let limits = limits_value(alloc)?;
     json!(in alloc; {
@@ -50,7 +50,7 @@ fn test_told(
     test: &Test,
 ) -> Result<TextValue, AllocError>
     requires { Spells text.now test.now }
-    ensures { IfOk result (λ told. IsTold version.now text.now told.is_test (view told.value)) }
+    ensures { IfOk result (λ told. Describes version.now text.now told.is_test (view told.value)) }
 {
     let lines = statement_lines(alloc, text)?;
     let value = test_value(alloc, &lines, test)?;
@@ -77,7 +77,7 @@ fn test_told(
 /// What a text says, with the version and the limits: the members `form`, `jslit`, `limits`, `fault`, `test` and `counts`. A text
 /// that spells no test has a fault with its line and no test; a test that is too large has both, and no counts.
 pub fn text_value(alloc: Global, version: &str, text: &[u8]) -> Result<TextValue, AllocError>
-    ensures { IfOk result (λ told. IsTold version.now text.now told.is_test (view told.value)) }
+    ensures { IfOk result (λ told. Describes version.now text.now told.is_test (view told.value)) }
 {
     match read(alloc, text) {
         Ok(test) => test_told(alloc, version, text, &test),

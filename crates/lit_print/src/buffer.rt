@@ -43,7 +43,7 @@ impl Buffer {
         if self.waiting.try_put(bytes) {
             return;
         }
-        self.put_anew(output, bytes);
+        self.put_after_flush(output, bytes);
     }
 
     /// Puts one byte behind those that wait.
@@ -65,7 +65,7 @@ impl Buffer {
     /// Writes the waiting bytes, and then puts these. Bytes that the empty buffer has no room for go straight to the writer.
     /// It is not inlined, so that `put` stays small.
     #[inline(never)]
-    fn put_anew<W: Write>(&mut self, output: &mut Counted<W>, bytes: &[u8])
+    fn put_after_flush<W: Write>(&mut self, output: &mut Counted<W>, bytes: &[u8])
         ensures { HasPutOn W.contents output.old output.new self.old self.new bytes.now }
     {
         self.flush(output);

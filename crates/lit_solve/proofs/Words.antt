@@ -52,7 +52,7 @@ pub use Rattle.lit_solve.specs.Boxes.{parting_in}
 pub use Rattle.lit_solve.specs.Completion.{HasSolution, IsCompletion, IsLeastSolution, IsSolution}
 pub use Rattle.lit_solve.specs.Fill.{AreCoherentSources, AreSourcesIn, CanFill, HasEffect, IsFilled, IsIdle, IsLeaf}
 pub use Rattle.lit_solve.specs.Given.{GivenIn, HappensBeforeIn, HasAlone, IsForbiddenIn, IsForcedIn}
-pub use Rattle.lit_solve.specs.Goal.{Meets}
+pub use Rattle.lit_solve.specs.Goal.{MeetsGoal}
 pub use Rattle.lit_solve.specs.Internal.ConditionValues.{IsByteDecided, IsDecided, IsProspect, IsReadDecided, stored_for}
 pub use Rattle.lit_solve.specs.Internal.Cut.{AreEndSources, AreShared, end_sources, IsGreaterAt, IsHighEnd, IsLowEnd, IsRangeCut, IsSame}
 pub use Rattle.lit_solve.specs.Internal.Cut.{IsSide}

@@ -10,7 +10,7 @@ use Rattle.lit_order.specs.MemoryOrder.{IsLeastMemoryOrder}
 use Rattle.lit_valid.specs.ValidExecution.{IsValidExecution}
 use Rattle.lit_solve.specs.declared.goal.Goal.{Goal}
 use Rattle.lit_solve.specs.Box.{Box, LiesIn, box_events}
-use Rattle.lit_solve.specs.Goal.{Meets}
+use Rattle.lit_solve.specs.Goal.{MeetsGoal}
 
 pub record IsCompletion (box : Box) (x : Execution) : Type 0 where
   pub valid : IsValidExecution box.test x
@@ -20,7 +20,7 @@ pub record IsCompletion (box : Box) (x : Execution) : Type 0 where
 -- a solution: a completion that meets the goal
 pub record IsSolution (box : Box) (goal : Goal) (x : Execution) : Type 0 where
   pub completes : IsCompletion box x
-  pub meets : Meets box.test goal x
+  pub meets : MeetsGoal box.test goal x
 
 -- the box has a solution
 abbrev pub HasSolution : Box → Goal → Type 0

@@ -8,7 +8,7 @@ use Rattle.lit_solve.specs.declared.goal.Goal.{Goal}
 use Rattle.lit_solve.specs.declared.goal.Goal.TheVariants.{Any, OfClass, Race}
 
 -- the execution meets the goal
-abbrev pub Meets : Litmus → Goal → Execution → Type 0
-Meets t Any x = ⊤
-Meets t (OfClass class) x = IsTrue (is_of_class t class (execution_outcome t x))
-Meets t Race x = HasDataRace (execution_events t x) x.sources
+abbrev pub MeetsGoal : Litmus → Goal → Execution → Type 0
+MeetsGoal t Any x = ⊤
+MeetsGoal t (OfClass class) x = IsTrue (is_of_class t class (execution_outcome t x))
+MeetsGoal t Race x = HasDataRace (execution_events t x) x.sources

@@ -22,7 +22,7 @@ use Rattle.lit_valid.specs.Laws.{Laws}
 use Rattle.lit_valid.specs.ValidExecution.{IsValidExecution}
 use Rattle.lit_valid.proofs.CompletionLemmas.{its_events}
 use Rattle.lit_valid.proofs.RunLemmas.{maps}
-use Rattle.lit_solve.specs.Goal.{Meets}
+use Rattle.lit_solve.specs.Goal.{MeetsGoal}
 use Rattle.lit_solve.specs.declared.goal.Goal.{Goal}
 use Rattle.lit_solve.specs.declared.goal.Goal.TheVariants.{OfClass, Race}
 use Rattle.lit_solve.proofs.RangeLemmas.{one_sources}
@@ -62,7 +62,7 @@ module _ (laws : Laws) (t : Litmus) (goal : Goal) (n : ℕ) (sources order : Lis
   pub shown_gives : Gives t n (execution_outcome t x)
   shown_gives = record { execution = x; valid = on_it.valid; chosen = chosen; result = refl }
 
-  pub shown_meets : Meets t goal x
+  pub shown_meets : MeetsGoal t goal x
   shown_meets = on_it.meets
 
 pub shown_class : Laws → (t : Litmus) (class : Class) (n : ℕ) (sources order : List ℕ) → IsShown t (OfClass class) n sources order
@@ -87,7 +87,7 @@ shown_race laws t n sources order shown =
 -- ---- where nothing is shown
 -- a valid execution with a choice is on one of the combinations
 none_on : Laws → (t : Litmus) (goal : Goal) (n : ℕ) (x : Execution) → IsValidExecution t x
-    → slice_get (choices_of t) n ≡ Some (execution_choice x) → Meets t goal x → ¬ ((c : ℕ) → HasNoneOn t goal c)
+    → slice_get (choices_of t) n ≡ Some (execution_choice x) → MeetsGoal t goal x → ¬ ((c : ℕ) → HasNoneOn t goal c)
 none_on laws t goal n x valid chosen meets none =
     let all = length (combinations_of t) in
     let below : n < choices_before t all = omega (

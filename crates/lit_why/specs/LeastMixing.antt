@@ -11,7 +11,7 @@ use Rattle.lit_paths.specs.declared.event.Event.{Event}
 use Rattle.lit_paths.specs.declared.event.Order3.TheVariants.{Init}
 use Rattle.lit_order.specs.MemoryOrder.{IsLeastMemoryOrder}
 use Rattle.lit_valid.specs.ValidExecution.{IsValidExecution}
-use Rattle.lit_solve.specs.Goal.{Meets}
+use Rattle.lit_solve.specs.Goal.{MeetsGoal}
 use Rattle.lit_solve.specs.declared.goal.Goal.{Goal}
 use Rattle.lit_why.specs.Attempts.{IsOn}
 
@@ -61,7 +61,7 @@ pub record GivesOn (t : Litmus) (goal : Goal) (c : ℕ) (sources : List ℕ) : T
   pub execution : Execution
   pub valid : IsValidExecution t execution
   pub on_paths : map run_path execution.runs ≡ combination_at t c
-  pub meets : Meets t goal execution
+  pub meets : MeetsGoal t goal execution
   pub same : execution.sources ≡ sources
 
 -- no valid execution on combination c meets the goal

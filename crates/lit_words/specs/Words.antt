@@ -12,7 +12,7 @@ use Rattle.clap.specs.declared.error.kind.ErrorKind.{ErrorKind}
 use Rattle.clap.specs.declared.error.kind.ErrorKind.TheVariants as kinds
 use Rattle.lit_desk.specs.declared.limits.TheConstants.{MOST_SEATS}
 use Rattle.lit_paths.specs.declared.limits.TheConstants.{CHOICE_LIMIT}
-use Rattle.lit_words.specs.declared.asked_line.Line.{Line}
+use Rattle.lit_words.specs.declared.command_line.Line.{Line}
 
 -- a flag with a value, a flag with none, and the file
 abbrev pub valued_flag : Text → Rule

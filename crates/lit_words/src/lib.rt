@@ -8,13 +8,13 @@
 #![tactic(auto)]
 
 mod answering;
-mod asked_line;
+mod command_line;
 mod options;
 mod version;
 mod words;
 
 pub use answering::{explain_words, no_words, words_of};
-pub use asked_line::Line;
+pub use command_line::Line;
 pub use options::Options;
 pub use version::VERSION;
 pub use words::line;

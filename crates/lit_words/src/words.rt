@@ -7,7 +7,7 @@ ghost use Rattle.lit_words.specs.Words.{bare_flag, faults_of, is_excluded, is_qu
 ghost use Rattle.lit_words.specs.Words.{names_report, number_flag, valued_flag, IsAsked};
 ghost use Rattle.lit_words.specs.Words.{file_argument as file_rule};
 
-use crate::asked_line::Line;
+use crate::command_line::Line;
 use crate::options::Options;
 use crate::version::VERSION;
 use clap::error::ErrorKind;

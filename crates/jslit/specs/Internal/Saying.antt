@@ -7,7 +7,7 @@ use Rattle.lit_print.specs.Counted.{device_of, failures_of}
 use Rattle.jslit.specs.RunAnswer.{HasSaid}
 
 -- The status is that of the fault. The output took the line of a refusal, and else nothing.
-pub record IsSaid {W : Type 0} (contents : W → Option (List ℕ)) (status : ℕ) (old new : Counted W) (fault : RunFault) : Type 0 where
+pub record IsFaultSaid {W : Type 0} (contents : W → Option (List ℕ)) (status : ℕ) (old new : Counted W) (fault : RunFault) : Type 0 where
   pub status_is : status ≡ status_of fault
   pub refused : status ≡ 1 → HasSaid fault (contents (device_of old)) (contents (device_of new)) (failures_of old < failures_of new)
   pub unchanged : status ≢ 1 → new ≡ old

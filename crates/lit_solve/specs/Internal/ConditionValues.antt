@@ -16,7 +16,7 @@ use Rattle.lit_solve.specs.declared.condition_values.Decided.TheVariants.{Known,
 use Rattle.lit_solve.specs.Box.{Box, HasSource, box_events}
 use Rattle.lit_solve.specs.Completion.{IsCompletion}
 use Rattle.lit_solve.specs.Fill.{AreSourcesIn}
-use Rattle.lit_solve.specs.Goal.{Meets}
+use Rattle.lit_solve.specs.Goal.{MeetsGoal}
 use Rattle.lit_solve.specs.Prospect.{IsAskedAt, IsUndecidedAt, outcome_by}
 
 -- the byte that event w stores for the k-th byte read
@@ -44,8 +44,8 @@ IsDecided box condition (Undecided k) = IsUndecidedAt box k × IsAskedAt box con
 
 -- the execution meets the goal as far as its outcome goes; this says nothing of data races
 abbrev pub MeetsByOutcome : Litmus → Goal → Execution → Type 0
-MeetsByOutcome t Any x = Meets t Any x
-MeetsByOutcome t (OfClass class) x = Meets t (OfClass class) x
+MeetsByOutcome t Any x = MeetsGoal t Any x
+MeetsByOutcome t (OfClass class) x = MeetsGoal t (OfClass class) x
 MeetsByOutcome t Race x = ⊤
 
 -- the value of the negated condition
@@ -56,6 +56,6 @@ opposite_of (Undecided k) = Undecided k
 -- no completion meets the goal; each meets it as far as its outcome goes; or that depends on a byte read whose sources store several
 -- bytes
 abbrev pub IsProspect : Box → Goal → Prospect → Type 0
-IsProspect box goal Nothing = (x : Execution) → IsCompletion box x → ¬ Meets box.test goal x
+IsProspect box goal Nothing = (x : Execution) → IsCompletion box x → ¬ MeetsGoal box.test goal x
 IsProspect box goal Each = (x : Execution) → IsCompletion box x → MeetsByOutcome box.test goal x
 IsProspect box goal (Open k) = IsUndecidedAt box k

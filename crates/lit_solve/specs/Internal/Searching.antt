@@ -10,7 +10,7 @@ use Rattle.lit_solve.specs.Box.{Box, box_events}
 use Rattle.lit_solve.specs.Completion.{IsCompletion}
 use Rattle.lit_solve.specs.Fill.{IsLeaf}
 use Rattle.lit_solve.specs.Given.{HasAlone}
-use Rattle.lit_solve.specs.Goal.{Meets}
+use Rattle.lit_solve.specs.Goal.{MeetsGoal}
 use Rattle.lit_solve.specs.Prospect.{IsUndecidedAt}
 use Rattle.lit_solve.specs.Internal.ConditionValues.{MeetsByOutcome, stored_for}
 
@@ -26,6 +26,6 @@ GoesWith box branch source w = MatchBool branch.by_value (stored_for box branch.
 -- no completion meets the goal; or the frame is a leaf, and each completion meets the goal as far as its outcome goes; or the search
 -- branches on a domain
 abbrev pub IsStep : Box → Goal → Step → Type 0
-IsStep box goal Refuted = (x : Execution) → IsCompletion box x → ¬ Meets box.test goal x
+IsStep box goal Refuted = (x : Execution) → IsCompletion box x → ¬ MeetsGoal box.test goal x
 IsStep box goal Leaf = IsLeaf box × ((x : Execution) → IsCompletion box x → MeetsByOutcome box.test goal x)
 IsStep box goal (Branched branch) = IsBranch box branch

@@ -2,7 +2,7 @@ use Rattle.std.proofs.Common.{sym, subst}
 use Rattle.std.specs.Io.KnownBytes.{Consumes}
 use Rattle.jslit.specs.Answer.{IsAnswerOn, IsFaultOn}
 use Rattle.lit_print.specs.Counted.{device_of}
-use Rattle.jslit.specs.Devices.{IsTold}
+use Rattle.jslit.specs.Devices.{IsInputText}
 use Rattle.jslit.proofs.Running.{ran, unread}
 use Rattle.jslit.proofs.engine.run_alone.Goals as goal
 
@@ -16,7 +16,7 @@ returns g c =
     let old = g.R.Read.remaining (device_of c.args.input.now) in
     let new = g.R.Read.remaining (device_of c.read_text.new.input) in
     ran g.R.Read.remaining g.W.Write.contents (IsAnswerOn c.args.quick) IsFaultOn c.deref.result.now c.args.input.now c.read_text.new.input
-    c.args.output.now c.answer_alone.new.output (subst (IsTold old) (sym c.deref.ensures.value) c.in_ok-text.ensures.text)
+    c.args.output.now c.answer_alone.new.output (subst (IsInputText old) (sym c.deref.ensures.value) c.in_ok-text.ensures.text)
     (subst (Consumes old new) (sym c.deref.ensures.value) c.in_ok-text.ensures.whole) c.in_ok-text.ensures.not_failed c.read_text.ensures.consumed
     c.answer_alone.result c.requires.output c.answer_alone.ensures.reported c.answer_alone.ensures.not_failed c.answer_alone.ensures.begun c.answer_alone.ensures.failed
     c.answer_alone.ensures.unwritten c.answer_alone.ensures.refused c.answer_alone.ensures.of_text

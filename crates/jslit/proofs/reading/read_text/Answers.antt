@@ -1,6 +1,6 @@
 use Rattle.std.proofs.Common.{arith}
 use Rattle.std.proofs.lemmas.List.{length-take}
-use Rattle.jslit.proofs.Told.{told_full, told_at_end, ConsumesBeginning-then}
+use Rattle.jslit.proofs.InputText.{input_full, input_at_end, ConsumesBeginning-then}
 use Rattle.jslit.proofs.reading.read_text.Goals as goal
 
 pub returns-in_err-read_some-clause-consumed : goal.returns-in_err-read_some-clause-consumed
@@ -10,7 +10,7 @@ returns-in_err-read_some-clause-consumed g c =
 
 pub returns-then-branch-eq0-clause-text : goal.returns-then-branch-eq0-clause-text
 returns-then-branch-eq0-clause-text g c =
-    told_at_end _ _ _ _ _ _ c.reading.invariant.consumed c.in_ok-read_some.ensures.bytes c.if-branch-eq0.true c.reading.invariant.few
+    input_at_end _ _ _ _ _ _ c.reading.invariant.consumed c.in_ok-read_some.ensures.bytes c.if-branch-eq0.true c.reading.invariant.few
 
 pub returns-clause-text : goal.returns-clause-text
-returns-clause-text g c = told_full _ _ _ c.reading.invariant.consumed (omega (arith, c.reading.invariant.few, c.reading-test.false, c.len.ensures))
+returns-clause-text g c = input_full _ _ _ c.reading.invariant.consumed (omega (arith, c.reading.invariant.few, c.reading-test.false, c.len.ensures))

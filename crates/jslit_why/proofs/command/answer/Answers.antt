@@ -8,7 +8,7 @@ use Rattle.jslit_why.proofs.command.answer.Goals as goal
 pub returns-in-Ok-clause-refused : goal.returns-in-Ok-clause-refused
 returns-in-Ok-clause-refused g c = λ one. record {
   text = c.in-Ok.text.items;
-  is_told = c.in-Ok.ensures.text;
+  is_input = c.in-Ok.ensures.text;
   holds = subst (λ (t : List ℕ). HasRefused g.W.Write.contents t c.args.asked.now c.args.output.now c.answer_text.new.output)
       c.deref.ensures.value (c.answer_text.ensures.refused one);
 }
@@ -17,7 +17,7 @@ pub returns-in-Ok-clause-other : goal.returns-in-Ok-clause-other
 returns-in-Ok-clause-other g c = λ two. let both = c.answer_text.ensures.other two in (
   record {
     text = c.in-Ok.text.items;
-    is_told = c.in-Ok.ensures.text;
+    is_input = c.in-Ok.ensures.text;
     holds = subst (λ (t : List ℕ). HasOtherCondition t c.args.asked.now) c.deref.ensures.value both.0;
   },
   both.1,
@@ -26,7 +26,7 @@ returns-in-Ok-clause-other g c = λ two. let both = c.answer_text.ensures.other 
 pub returns-in-Ok-clause-begun : goal.returns-in-Ok-clause-begun
 returns-in-Ok-clause-begun g c = λ four. inr (record {
   text = c.in-Ok.text.items;
-  is_told = c.in-Ok.ensures.text;
+  is_input = c.in-Ok.ensures.text;
   holds = subst (λ (t : List ℕ). HasBegun g.W.Write.contents t c.args.asked.now c.args.output.now c.answer_text.new.output)
       c.deref.ensures.value (c.answer_text.ensures.begun four);
 })

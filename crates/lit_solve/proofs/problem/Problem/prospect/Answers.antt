@@ -1,4 +1,4 @@
-use Rattle.lit_solve.proofs.Words.{box_of, false≢true, Goal, IsProspect, Meets, subst, sym, ◌∙◌}
+use Rattle.lit_solve.proofs.Words.{box_of, false≢true, Goal, IsProspect, MeetsGoal, subst, sym, ◌∙◌}
 use Rattle.lit_solve.proofs.RegisterLemmas.{prospect_of_completions}
 use Rattle.lit_solve.proofs.problem.Problem.prospect.Goals as goal
 
@@ -11,6 +11,6 @@ returns-in-OfClass c =
 pub returns-else-may_race : goal.returns-else-may_race
 returns-else-may_race c x is meets =
     let box = box_of c.args.self.now c.args.frame.now in
-    let race = subst (λ (g : Goal). Meets box.test g x) c.in-Race.is meets in
+    let race = subst (λ (g : Goal). MeetsGoal box.test g x) c.in-Race.is meets in
     false≢true (sym c.if-may_race.false
     ∙ c.may_race.ensures (c.boxes_bound_races.ensures.may box x c.requires.exact.contained.is_box is race))

@@ -1,6 +1,6 @@
 use Rattle.std.proofs.Common.{◌≡◌, [], ◌∙◌}
 use Rattle.lit_print.proofs.Putting.{HasPut-then, put_through}
-use Rattle.lit_print.proofs.buffer.Buffer.put_anew.Goals as goal
+use Rattle.lit_print.proofs.buffer.Buffer.put_after_flush.Goals as goal
 
 pub returns : goal.returns
 returns g c =
