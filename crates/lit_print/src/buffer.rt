@@ -114,7 +114,8 @@ impl Buffer {
 
 /// Writes all the bytes, unless a write has failed. Gives whether one has failed now.
 fn write_on<W: Write>(failed: bool, output: &mut Counted<W>, bytes: &[u8]) -> bool
-    ensures { HasPut (record { known = W.contents (device_of output.old); failures = failures_of output.old; waiting = bytes.now; failed = failed })
+    ensures { HasPut
+        (record { known = W.contents (device_of output.old); failures = failures_of output.old; waiting = bytes.now; failed = failed })
         (record { known = W.contents (device_of output.new); failures = failures_of output.new; waiting = []; failed = result }) [] }
 {
     failed || write_all(output, bytes).is_err()

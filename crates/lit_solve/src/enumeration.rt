@@ -130,7 +130,8 @@ impl Problem<'_> {
     /// it is given such a one.
     fn next_branch(&self, frame: &Frame, undecided: Option<usize>) -> Option<Branch>
         requires fixpoint { IsFixpoint (box_of self.now frame.now) frame.now }
-        requires undecided { IfSome undecided (λ k. (k < length (byte_reads (events_on self.now))) × IsUndecidedAt (box_of self.now frame.now) k) }
+        requires undecided { IfSome undecided (λ k. (k < length (byte_reads (events_on self.now)))
+            × IsUndecidedAt (box_of self.now frame.now) k) }
         ensures branch { IfSome result (IsBranch (box_of self.now frame.now)) }
         ensures none { IfNone result (IsNone undecided) }
     {

@@ -42,8 +42,8 @@ impl Problem<'_> {
         sources
     }
 
-    /// Descends to the frame of the least solution, in which each domain has one source. Answers whether there is a solution. If `feasible`,
-    /// there is one.
+    /// Descends to the frame of the least solution, in which each domain has one source. Answers whether there is a solution. If
+    /// `feasible`, there is one.
     fn find_least(&self, frame: &mut Frame, goal: Goal, feasible: bool) -> bool
         requires fixpoint { IsFixpoint (box_of self.now frame.old) frame.old }
         requires feasible { IsTrue feasible → HasSolution (box_of self.now frame.old) goal }

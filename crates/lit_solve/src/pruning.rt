@@ -113,8 +113,8 @@ impl Problem<'_> {
         !others.is_empty() && can_read_whole(event_at(events, read), event_at(events, source))
     }
 
-    /// Whether the frame shows that no completion has this source, which is not forced after it, for the byte read at a place: if not, it is
-    /// coherent. `whole` are given sources of the read from which it reads whole. The frame's happens-before is acyclic.
+    /// Whether the frame shows that no completion has this source, which is not forced after it, for the byte read at a place: if not, it
+    /// is coherent. `whole` are given sources of the read from which it reads whole. The frame's happens-before is acyclic.
     fn is_prunable(&self, frame: &Frame, place: usize, source: usize, whole: EventSet) -> bool
         requires place { place < length (byte_reads (events_on self.now)) }
         requires source { source < length (events_on self.now) }
