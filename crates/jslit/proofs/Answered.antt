@@ -5,17 +5,17 @@ use Rattle.clap.specs.Words.{HasKind, IsAmong, Kinds, Text, kind_of}
 use Rattle.clap.specs.declared.error.Error.{Error}
 use Rattle.clap.specs.declared.error.kind.ErrorKind.{ErrorKind}
 use Rattle.clap.specs.declared.error.kind.ErrorKind.TheVariants as kinds
-use Rattle.lit_words.specs.declared.command_line.Line.{Line}
-use Rattle.lit_print.specs.declared.counted.Counted.{Counted}
+use Rattle.lit_command_line.specs.declared.command_line.Line.{Line}
+use Rattle.lit_report.specs.declared.counted.Counted.{Counted}
 use Rattle.jslit.specs.Answer.{IsCheckStatus}
-use Rattle.lit_print.specs.Counted.{device_of, failures_of}
+use Rattle.lit_report.specs.Counted.{device_of, failures_of}
 use Rattle.jslit.specs.Devices.{OfInputText}
-use Rattle.lit_words.specs.Answered.{IsExplained}
+use Rattle.lit_command_line.specs.Answered.{IsExplained}
 use Rattle.jslit.specs.declared.fault.RunFault.{RunFault}
 use Rattle.jslit.specs.ProgramAnswer.{HasAnswered, IsAnswerBy, IsFaultBy}
 use Rattle.jslit.specs.RunAnswer.{HasServed}
 use Rattle.jslit.proofs.Finishing.{nothing_served}
-use Rattle.lit_words.specs.Words.{AsksHelp, AsksRun, AsksVersion, IsAsked, IsRefused, faults_of, file_in, quick_in, schedule_in}
+use Rattle.lit_command_line.specs.Words.{AsksHelp, AsksRun, AsksVersion, IsAsked, IsRefused, faults_of, file_in, quick_in, schedule_in}
 
 -- what holds on a text that is told holds on some text
 on_some_text : (told : Option (List ℕ)) (Holds : List ℕ → Type 0) → OfInputText told Holds → OfInputText None Holds

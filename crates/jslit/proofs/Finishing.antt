@@ -5,11 +5,11 @@ use Rattle.std.specs.Io.KnownBytes.{Keeps}
 use Rattle.std.proofs.lemmas.Bool.{cases_lt}
 use Rattle.std.proofs.KnownBytes.{Appends-kept}
 use Rattle.jslit.specs.Answer.{HasGrown, HasGrownSome, HasGrownRefusal, IsCheckStatus, status_of}
-use Rattle.lit_print.specs.Counted.{device_of, failures_of}
+use Rattle.lit_report.specs.Counted.{device_of, failures_of}
 use Rattle.jslit.specs.Devices.{OfInputText}
 use Rattle.jslit.specs.RunAnswer.{HasRun, HasSaid, HasServed}
 use Rattle.jslit.specs.Internal.Saying.{IsFaultSaid}
-use Rattle.lit_print.specs.declared.counted.Counted.{Counted}
+use Rattle.lit_report.specs.declared.counted.Counted.{Counted}
 use Rattle.jslit.specs.declared.fault.RunFault.{RunFault}
 use Rattle.jslit.specs.declared.fault.RunFault.TheVariants as faults
 use Rattle.jslit.proofs.Statuses.{check_status_of, failed_device, never_zero, refusal_of_text, whole_is_beginning}
@@ -124,11 +124,11 @@ finished remaining contents Is IsFault ran old_input new_input old mid new statu
     let told = remaining (device_of old_input) in record {
       answered = finished_answer contents told Is IsFault old mid new status ran run.answered flushed said;
       refused = finished_refusal contents told Is IsFault old mid new status ran flushed run.refused run.unwritten said;
-      unfailed = finished_unfailed contents told Is IsFault old mid new status ran run.output_failed.1 run.output_count counted said;
+      unfailed = finished_unfailed contents told Is IsFault old mid new status ran run.output_failed.0.1 run.output_failed.1 counted said;
       failed = finished_failure contents told Is IsFault old mid new status (failures_of old_input < failures_of new_input) ran run.answered flushed said
-          run.input_failed.0 run.output_failed.0;
+          run.input_failed.0.0 run.output_failed.0.0;
       begun = finished_beginning contents told Is IsFault old mid new status ran run.answered flushed said run.unwritten run.begun;
-      unwritten = λ failed. finished_unwritten contents told Is IsFault old mid new status ran (run.input_failed.1 failed) run.unwritten said;
+      unwritten = λ failed. finished_unwritten contents told Is IsFault old mid new status ran (run.input_failed.0.1 failed) run.unwritten said;
     }
 
 -- memory ran out before a run

@@ -1,6 +1,4 @@
 mod Statuses
-pub mod Lines
-pub mod Judging
 pub mod Refusals
 pub mod Completeness
 pub mod TestAnswers

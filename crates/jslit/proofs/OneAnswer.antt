@@ -7,18 +7,18 @@ use Rattle.lit_paths.specs.Choice.{choices_of}
 use Rattle.lit_paths.specs.Outcome.{meets}
 use Rattle.lit_valid.specs.declared.class.Class.TheVariants.{Met, Unmet}
 use Rattle.lit_search.specs.Report.{Entry, Report, IsReport, in_range}
-use Rattle.jslit.specs.declared.verdict.Verdict.{Verdict}
-use Rattle.jslit.specs.declared.verdict.Verdict.TheVariants.{Always, Sometimes, Never}
-use Rattle.jslit.specs.ReportText.{quick_text, report_text}
-use Rattle.jslit.specs.Verdict.{AllMeet, IsVerdict, NoneMeets, verdict_of}
+use Rattle.lit_report.specs.declared.verdict.Verdict.{Verdict}
+use Rattle.lit_report.specs.declared.verdict.Verdict.TheVariants.{Always, Sometimes, Never}
+use Rattle.lit_report.specs.ReportText.{quick_text, report_text}
+use Rattle.lit_report.specs.Verdict.{AllMeet, IsVerdict, verdict_of}
 use Rattle.jslit.specs.Answer.{IsAnswerOf, IsAnswerOn, IsQuickReportOf, IsReportOf}
 use Rattle.jslit.proofs.QuickAnswers.{one_first}
 
-never_or_always : (t : Litmus) (report : Report) → NoneMeets t report → AllMeet t report → ⊥
+never_or_always : (t : Litmus) (report : Report) → AllMeet t report false → IsVerdict t report Always → ⊥
 never_or_always t report none all =
     let first : Entry = get_or report.entries 0 (record { outcome = []; choice = 0; order = [] }) in
-    let fails : meets t first.outcome ≡ false = none 0 _ all.some in
-    let passes : meets t first.outcome ≡ true = all.all 0 _ all.some in
+    let fails : meets t first.outcome ≡ false = none 0 _ all.0 in
+    let passes : meets t first.outcome ≡ true = all.1 0 _ all.0 in
     absurd (let bad : true ≡ false = sym passes ∙ fails in cc)
 
 one_verdict : (t : Litmus) (report : Report) (v w : Verdict) → IsVerdict t report v → IsVerdict t report w → v ≡ w
@@ -27,9 +27,9 @@ one_verdict t report Never Always p q = absurd (never_or_always t report p q)
 one_verdict t report Never Sometimes p q = absurd (q.0 p)
 one_verdict t report Always Never p q = absurd (never_or_always t report q p)
 one_verdict t report Always Always p q = refl
-one_verdict t report Always Sometimes p q = absurd (q.1 p)
+one_verdict t report Always Sometimes p q = absurd (q.1 p.1)
 one_verdict t report Sometimes Never p q = absurd (p.0 q)
-one_verdict t report Sometimes Always p q = absurd (p.1 q)
+one_verdict t report Sometimes Always p q = absurd (p.1 q.1)
 one_verdict t report Sometimes Sometimes p q = refl
 
 abbrev OneTest : List ℕ → Type 0

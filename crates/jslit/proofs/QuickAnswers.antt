@@ -13,7 +13,7 @@ use Rattle.lit_valid.specs.Gives.{Gives, HasLeastOrder}
 use Rattle.lit_search.specs.Report.{Entry, Report, HasEntry, IsEntry, IsReport, in_range}
 use Rattle.lit_search.proofs.Reports.{one_order}
 use Rattle.jslit.specs.QuickAnswer.{IsFirst, IsFirstEntry}
-use Rattle.jslit.specs.Verdict.{IsVerdict, verdict_of}
+use Rattle.lit_report.specs.Verdict.{IsVerdict, verdict_of}
 
 abbrev all_of : Litmus → ℕ → Bool
 all_of t = in_range 0 (length (choices_of t))
@@ -117,8 +117,8 @@ module _ (t : Litmus) where
     -- the verdict is the report's
     pub quick_judged : (met unmet : Option Entry) → IsFirst t Met met → IsFirst t Unmet unmet → IsVerdict t report (verdict_of (is_some met) (is_some unmet))
     quick_judged None unmet p q = λ k d lt. not_met k d lt p
-    quick_judged (Some e) None p q = let s = met_there e p in record { some = omega (arith, s.1); all = λ k d lt. all_met k d lt q }
+    quick_judged (Some e) None p q = let s = met_there e p in (omega (arith, s.1), λ k d lt. all_met k d lt q)
     quick_judged (Some e) (Some f) p q =
         let s = met_there e p in
         let u = unmet_there f q in
-        (λ none. false≢true (sym (none s.0 e s.1) ∙ s.2 e), λ all. false≢true (sym (u.2 f) ∙ all.all u.0 f u.1))
+        (λ none. false≢true (sym (none s.0 e s.1) ∙ s.2 e), λ all. false≢true (sym (u.2 f) ∙ all u.0 f u.1))

@@ -1,23 +1,24 @@
 -- The effect of a run whose input could not be read, and of one that answers on a text.
-use Rattle.std.proofs.Common.{◌≡◌, ◌≢◌, ◌⊎◌, ◌+◌, ◌-◌, ◌^◌, ◌<◌, inl, inr, ℕ, List, Option, Some, None, Ok, Err, IfErr, IsErrOf, OnOk, arith, refl, sym, ap, subst}
+use Rattle.std.proofs.Common.{◌≡◌, ◌≢◌, ◌⊎◌, ◌+◌, ◌-◌, ◌^◌, ◌<◌, ◌∙◌, inl, inr, ℕ, List, Option, Some, None, Ok, Err, IfErr, IsErrOf, OnOk, arith, refl, sym, ap, subst}
 use Rattle.std.specs.declared.result.Result.{Result}
 use Rattle.std.specs.Io.KnownBytes.{Consumes}
 use Rattle.std.specs.Result.{IsErrAnd}
 use Rattle.lit_syntax.specs.declared.limits.TheConstants.{TEXT_LIMIT}
 use Rattle.jslit.specs.Answer.{HasGrown, HasGrownSome}
-use Rattle.lit_print.specs.Counted.{device_of, failures_of, one_more}
-use Rattle.jslit.specs.Devices.{ConsumesBeginning, ConsumesText, IsReadFailure, IsInputText}
+use Rattle.lit_report.specs.Counted.{device_of, failures_of, one_more}
+use Rattle.jslit.specs.Devices.{ConsumesBeginning, IsReadFailure, IsInputText}
 use Rattle.jslit.specs.RunAnswer.{HasRun}
 use Rattle.jslit.specs.Internal.Answering.{IsOfTextOrWriting}
-use Rattle.lit_print.specs.declared.counted.Counted.{Counted}
+use Rattle.lit_report.specs.declared.counted.Counted.{Counted}
 use Rattle.jslit.specs.declared.fault.RunFault.{RunFault}
 use Rattle.jslit.specs.declared.fault.RunFault.TheVariants as faults
 use Rattle.jslit.proofs.Refusals.{of_any_text}
 
--- a text that was told was consumed as told
-whole_input : (old new : Option (List ℕ)) (text : List ℕ) → IsInputText old text → Consumes old new text → ConsumesText old new
-whole_input None new text told consumes = tt
-whole_input (Some bytes) new text told consumes = subst (λ (front : List ℕ). Consumes (Some bytes) new front) told consumes
+-- one text at the most is the input's, and it was consumed
+whole_input : (old new : Option (List ℕ)) (text : List ℕ) → IsInputText old text → Consumes old new text
+    → (other : List ℕ) → IsInputText old other → Consumes old new other
+whole_input None new text is consumes other is_other = tt
+whole_input (Some bytes) new text is consumes other is_other = subst (λ (front : List ℕ). Consumes (Some bytes) new front) (is ∙ sym is_other) consumes
 
 output_or_not : (e : RunFault) → (e ≡ faults.OutputFailed) ⊎ (e ≢ faults.OutputFailed)
 output_or_not faults.OutputFailed = inl refl
@@ -38,26 +39,20 @@ module _ {R W X : Type 0} (remaining : R → Option (List ℕ)) (contents : W �
       by faults.OutOfMemory is same = record {
         answered = tt;
         refused = of_any_text _ (λ text. IsFault text e) (λ text. subst (IsFault text) (sym is) (memory text));
-        input_failed = (λ bad. absurd cc, λ lt. absurd (omega (arith, same, lt)));
-        output_failed = (λ bad. absurd cc, λ lt. absurd (omega (arith, lt)));
-        input_count = omega (arith, same);
-        output_count = omega arith;
+        input_failed = ((λ bad. absurd cc, λ lt. absurd (omega (arith, same, lt))), omega (arith, same));
+        output_failed = ((λ bad. absurd cc, λ lt. absurd (omega (arith, lt))), omega arith);
         begun = λ bad. absurd cc;
         unwritten = λ _. refl;
-        consumed = consumed;
-        whole = λ _ not_memory. absurd (not_memory (ap Err is));
+        read = record { few = consumed; whole = λ _ not_memory. absurd (not_memory (ap Err is)) };
       }
       by faults.InputFailed is lt = record {
         answered = tt;
         refused = of_any_text _ (λ text. IsFault text e) (λ text. subst (IsFault text) (sym is) (input text));
-        input_failed = (λ _. lt, λ _. ap Err is);
-        output_failed = (λ bad. absurd cc, λ more. absurd (omega (arith, more)));
-        input_count = omega (arith, lt);
-        output_count = omega arith;
+        input_failed = ((λ _. lt, λ _. ap Err is), omega (arith, lt));
+        output_failed = ((λ bad. absurd cc, λ more. absurd (omega (arith, more))), omega arith);
         begun = λ bad. absurd cc;
         unwritten = λ _. refl;
-        consumed = consumed;
-        whole = λ not_input _. absurd (not_input (ap Err is));
+        read = record { few = consumed; whole = λ not_input _. absurd (not_input (ap Err is)) };
       }
       by (faults.Read f) is failed = absurd failed
       by (faults.Plan f) is failed = absurd failed
@@ -77,43 +72,37 @@ module _ {R W X : Type 0} (remaining : R → Option (List ℕ)) (contents : W �
     ran (Ok x) small grown count begun rose unwritten refused of_text = record {
       answered = record { text = text; is_input = told; holds = grown };
       refused = tt;
-      input_failed = (λ bad. absurd cc, λ lt. absurd (omega (arith, same, lt)));
-      output_failed = (λ bad. absurd cc, λ lt. absurd (omega (arith, count, lt)));
-      input_count = omega (arith, same);
-      output_count = omega (arith, count);
+      input_failed = ((λ bad. absurd cc, λ lt. absurd (omega (arith, same, lt))), omega (arith, same));
+      output_failed = ((λ bad. absurd cc, λ lt. absurd (omega (arith, count, lt))), omega (arith, count));
       begun = λ bad. absurd cc;
       unwritten = tt;
-      consumed = consumed;
-      whole = λ _ _. whole_input _ _ text told consumes;
+      read = record { few = consumed; whole = λ _ _. whole_input _ _ text told consumes };
     }
     ran (Err e) small grown count begun rose unwritten refused of_text = elim (output_or_not e) [
       | inl is ↦
           let more : failures_of new ≡ one_more (failures_of old) = rose (ap Err is) in record {
             answered = tt;
             refused = record { text = text; is_input = told; holds = refused };
-            input_failed = (λ bad. absurd cc, λ lt. absurd (omega (arith, same, lt)));
-            output_failed = (λ _. omega (arith, more, small), λ _. ap Err is);
-            input_count = omega (arith, same);
-            output_count = omega (arith, more, small);
+            input_failed = ((λ bad. absurd cc, λ lt. absurd (omega (arith, same, lt))), omega (arith, same));
+            output_failed = ((λ _. omega (arith, more, small), λ _. ap Err is), omega (arith, more, small));
             begun = λ bad. record { text = text; is_input = told; holds = begun bad };
             unwritten = unwritten;
-            consumed = consumed;
-            whole = λ _ _. whole_input _ _ text told consumes;
+            read = record { few = consumed; whole = λ _ _. whole_input _ _ text told consumes };
           }
       | inr other ↦
           let unchanged : failures_of new ≡ failures_of old = ap failures_of (unwritten other) in record {
             answered = tt;
             refused = record { text = text; is_input = told; holds = refused };
             input_failed = (
-              λ bad. let is : e ≡ faults.InputFailed = cc in absurd (subst IsOfTextOrWriting is of_text),
-              λ lt. absurd (omega (arith, same, lt)),
+              (
+                λ bad. let is : e ≡ faults.InputFailed = cc in absurd (subst IsOfTextOrWriting is of_text),
+                λ lt. absurd (omega (arith, same, lt)),
+              ),
+              omega (arith, same),
             );
-            output_failed = (λ bad. let is : e ≡ faults.OutputFailed = cc in absurd (other is), λ lt. absurd (omega (arith, unchanged, lt)));
-            input_count = omega (arith, same);
-            output_count = omega (arith, unchanged);
+            output_failed = ((λ bad. let is : e ≡ faults.OutputFailed = cc in absurd (other is), λ lt. absurd (omega (arith, unchanged, lt))), omega (arith, unchanged));
             begun = λ bad. let is : e ≡ faults.OutputFailed = cc in absurd (other is);
             unwritten = unwritten;
-            consumed = consumed;
-            whole = λ _ _. whole_input _ _ text told consumes;
+            read = record { few = consumed; whole = λ _ _. whole_input _ _ text told consumes };
           }
     ]

@@ -17,16 +17,16 @@ use Rattle.lit_valid.specs.Gives.{Gives}
 use Rattle.lit_search.specs.Report.{Report, IsReport, entry_at, in_range}
 use Rattle.jslit.specs.declared.fault.RunFault.{RunFault}
 use Rattle.jslit.specs.declared.fault.RunFault.TheVariants.{OutputFailed}
-use Rattle.jslit.specs.declared.verdict.Verdict.{Verdict}
+use Rattle.lit_report.specs.declared.verdict.Verdict.{Verdict}
 use Rattle.jslit.specs.Answer.{HasBegun, HasReported, IsAnswerOf, IsComplete, IsQuickReportOf, IsReportOf}
-use Rattle.lit_print.specs.Writing.{AppendsBeginning}
-use Rattle.jslit.specs.ReportText.{quick_text, report_text}
-use Rattle.jslit.specs.Verdict.{IsVerdict, verdict_of}
+use Rattle.lit_report.specs.Writing.{AppendsBeginning}
+use Rattle.lit_report.specs.ReportText.{quick_text, report_text}
+use Rattle.lit_report.specs.Verdict.{IsVerdict, verdict_of}
 use Rattle.jslit.specs.Internal.Answering.{HasWritten, HasWrittenSome, IsFirstFound}
-use Rattle.jslit.specs.Internal.FirstEntry.{entry_of_option}
+use Rattle.lit_report.specs.Internal.FirstEntry.{entry_of_option}
 use Rattle.jslit.proofs.QuickAnswers.{quick_judged}
 use Rattle.jslit.proofs.Refusals.{on_err}
-use Rattle.lit_pages.proofs.EntryFacts.{among_all}
+use Rattle.lit_report.proofs.ReportEntries.{among_all}
 
 abbrev OneOutcome : Type 0
 OneOutcome = (t : Litmus) (n : ℕ) (some other : List ℕ) → IsLitmus t → Gives t n some → Gives t n other → some ≡ other

@@ -1,5 +1,5 @@
 -- What a run answers for the bytes of a text (this project's own).
-use Rattle.std.specs.Prelude.{◌≡◌, ◌⊎◌, ℕ, Bool, true, false, Option, is_some, List, length, map, Contains}
+use Rattle.std.specs.Prelude.{◌≡◌, ◌⊎◌, ℕ, Bool, true, false, Option, is_some, List, [], length, map, Contains}
 use Rattle.std.specs.Io.KnownBytes.{Appends}
 use Rattle.lit_syntax.specs.Syntax.{Litmus}
 use Rattle.lit_read.specs.Faults.{IsFirstFault}
@@ -13,12 +13,12 @@ use Rattle.lit_paths.specs.Execution.{Execution, execution_outcome}
 use Rattle.lit_valid.specs.ValidExecution.{IsValidExecution}
 use Rattle.jslit.specs.declared.fault.RunFault.{RunFault}
 use Rattle.jslit.specs.declared.fault.RunFault.TheVariants as faults
-use Rattle.jslit.specs.declared.verdict.Verdict.{Verdict}
-use Rattle.lit_print.specs.Writing.{AppendsBeginning}
+use Rattle.lit_report.specs.declared.verdict.Verdict.{Verdict}
+use Rattle.lit_report.specs.Writing.{AppendsBeginning}
 use Rattle.jslit.specs.QuickAnswer.{IsFirst}
-use Rattle.jslit.specs.ReportText.{report_text, quick_text}
-use Rattle.jslit.specs.RefusalText.{refusal_line}
-use Rattle.jslit.specs.Verdict.{IsVerdict, verdict_of}
+use Rattle.lit_report.specs.ReportText.{report_text, quick_text}
+use Rattle.lit_report.specs.RefusalText.{plan_fault_line, read_fault_line, unknown_agent_line}
+use Rattle.lit_report.specs.Verdict.{IsVerdict, verdict_of}
 
 -- each valid execution of the test has its outcome in the report
 abbrev pub IsComplete : Litmus → Report → Type 0
@@ -56,16 +56,10 @@ pub record IsAnswerOn (quick : Bool) (text answer : List ℕ) : Type 0 where
   pub planned : (fault : PlanFault) → ¬ IsRefusal test fault
   pub of_test : IsAnswerOf quick test answer
 
--- the text spells a test that is refused so
-pub record IsPlanRefused (text : List ℕ) (fault : PlanFault) : Type 0 where
-  pub test : Litmus
-  pub spelled : Spells text test
-  pub refused : IsRefusal test fault
-
--- what a fault says of the text
+-- What a fault says of the text: that it is the first one, or that the text spells a test that is refused so.
 abbrev pub IsFaultOn : List ℕ → RunFault → Type 0
 IsFaultOn text (faults.Read fault) = IsFirstFault text fault.kind fault.line
-IsFaultOn text (faults.Plan fault) = IsPlanRefused text fault
+IsFaultOn text (faults.Plan fault) = (test : Litmus) × Spells text test × IsRefusal test fault
 IsFaultOn text faults.UnknownAgent = ⊥
 IsFaultOn text faults.OutOfMemory = Unit {0}
 IsFaultOn text faults.InputFailed = Unit {0}
@@ -99,6 +93,15 @@ status_of faults.UnknownAgent = 1
 status_of faults.OutOfMemory = 3
 status_of faults.InputFailed = 4
 status_of faults.OutputFailed = 4
+
+-- the line of a fault that refuses a text, its test or a schedule, and of no other fault
+abbrev pub refusal_line : RunFault → List ℕ
+refusal_line (faults.Read fault) = read_fault_line fault
+refusal_line (faults.Plan fault) = plan_fault_line fault
+refusal_line faults.UnknownAgent = unknown_agent_line
+refusal_line faults.OutOfMemory = []
+refusal_line faults.InputFailed = []
+refusal_line faults.OutputFailed = []
 
 -- known bytes grew by the line of a refusal of this kind; where a write failed, by a beginning of that line
 pub record HasGrownRefusal (IsFault : RunFault → Type 0) (old new : Option (List ℕ)) (failed : Type 0) : Type 0 where

@@ -8,7 +8,7 @@ use Rattle.lit_search.specs.Report.{Entry, Report}
 use Rattle.jslit.specs.declared.fault.RunFault.{RunFault}
 use Rattle.jslit.specs.declared.fault.RunFault.TheVariants as faults
 use Rattle.jslit.specs.Answer.{HasGrown, HasGrownSome}
-use Rattle.jslit.specs.ReportText.{interleaving_text}
+use Rattle.lit_report.specs.ReportText.{interleaving_text}
 use Rattle.jslit.specs.Schedule.{NamesAgents, NamesNoAgents}
 
 -- The text spells a test, the schedule names agents of it, and the answer is the text of the outcome that they have in

@@ -1,7 +1,4 @@
 pub mod Devices
-pub mod Verdict
-pub mod ReportText
-pub mod RefusalText
 pub mod QuickAnswer
 pub mod Answer
 pub mod Schedule

@@ -1,13 +1,13 @@
 -- What the program answers for its words (this project's own).
 use Rattle.std.specs.Prelude.{◌≡◌, ◌⊎◌, ◌<◌, ℕ, Bool, List, Option, Some, None, is_some, true}
 use Rattle.clap.specs.Words.{Text}
-use Rattle.lit_print.specs.declared.counted.Counted.{Counted}
+use Rattle.lit_report.specs.declared.counted.Counted.{Counted}
 use Rattle.jslit.specs.declared.fault.RunFault.{RunFault}
 use Rattle.jslit.specs.Answer.{IsAnswerOn, IsCheckStatus, IsFaultOn}
-use Rattle.lit_print.specs.Counted.{device_of, failures_of}
+use Rattle.lit_report.specs.Counted.{device_of, failures_of}
 use Rattle.jslit.specs.InterleavingAnswer.{IsInterleavingOn, IsScheduleFaultOn}
 use Rattle.jslit.specs.RunAnswer.{HasServed}
-use Rattle.lit_words.specs.Words.{AsksHelp, AsksRun, AsksVersion, IsRefused, file_in, quick_in, schedule_in}
+use Rattle.lit_command_line.specs.Words.{AsksHelp, AsksRun, AsksVersion, IsRefused, file_in, quick_in, schedule_in}
 
 -- the answer is the outcome of the schedule where there is one, and else the report
 abbrev pub IsAnswerBy : (quick : Bool) → Option Text → (text answer : List ℕ) → Type 0

@@ -4,12 +4,11 @@ mod alone;
 mod answering;
 mod cutting;
 mod few_steps;
-pub(crate) mod printing;
 pub(crate) mod workers;
 
 ghost use Rattle.std.specs.Prelude.{◌≡◌, ◌<◌, ◌^◌, ◌-◌, length};
 ghost use Rattle.jslit.specs.Answer.{IsAnswerOn, IsFaultOn};
-ghost use Rattle.lit_print.specs.Counted.{failures_of};
+ghost use Rattle.lit_report.specs.Counted.{failures_of};
 ghost use Rattle.jslit.specs.RunAnswer.{HasRun};
 
 use crate::engine::alone::answer_alone;
@@ -17,9 +16,9 @@ use crate::engine::workers::{answer, passes};
 use crate::fault::RunFault;
 use crate::reading::read_text;
 use crate::watch::Watch;
-use lit_print::Counted;
+use lit_options::Options;
+use lit_report::Counted;
 use lit_share::OpenGate;
-use lit_words::Options;
 use std::alloc::Global;
 use std::io::{Read, Write};
 use std::thread::Threads;

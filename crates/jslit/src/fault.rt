@@ -4,6 +4,7 @@ ghost use Rattle.std.specs.Prelude.{◌≡◌};
 
 use lit_paths::PlanFault;
 use lit_read::{ReadFault, ReadKind};
+use lit_report::OutputFailed;
 use lit_search::SearchFault;
 use lit_share::ShareFault;
 use std::alloc::{AllocError, AllocFailed};
@@ -101,5 +102,16 @@ impl From<AllocError> for RunFault {
 
     fn from(_refused: AllocError) -> RunFault {
         RunFault::OutOfMemory
+    }
+}
+
+impl From<OutputFailed> for RunFault {
+    ghost use Rattle.std.specs.Prelude.{◌≡◌};
+    ghost use Rattle.jslit.specs.declared.fault.RunFault.TheVariants as faults;
+
+    ghost from_gives = { λ _ fault. fault ≡ faults.OutputFailed };
+
+    fn from(_failed: OutputFailed) -> RunFault {
+        RunFault::OutputFailed
     }
 }

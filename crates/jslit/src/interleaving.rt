@@ -3,54 +3,19 @@
 pub(crate) mod schedule;
 
 ghost use Rattle.std.specs.Prelude.{◌≡◌, ◌≢◌, ◌<◌, ◌^◌, ◌-◌, IfErr, OnOk, OnErr, IsErrOf, length};
-ghost use Rattle.std.specs.Io.KnownBytes.{Appends};
-ghost use Rattle.lit_paths.specs.Outcome.{names_of};
-ghost use Rattle.lit_print.specs.Counted.{device_of, failures_of, one_more};
-ghost use Rattle.lit_print.specs.Writing.{AppendsBeginning};
+ghost use Rattle.lit_report.specs.Counted.{device_of, failures_of, one_more};
 ghost use Rattle.jslit.specs.InterleavingAnswer.{HasInterleaved, HasInterleavedSome, IsInterleavingOn, IsScheduleFaultOn};
-ghost use Rattle.jslit.specs.ReportText.{interleaving_text};
 ghost use Rattle.jslit.specs.RunAnswer.{HasRun};
 ghost use Rattle.jslit.specs.Internal.Answering.{IsOfTextOrWriting};
 
 use crate::fault::RunFault;
 use crate::interleaving::schedule::agents_of;
 use crate::reading::read_text;
-use crate::report::finish;
-use crate::report::report_writer::{put_head, word_for};
 use lit_interleave::interleave;
-use lit_paths::{meets, written_names};
-use lit_print::{Buffer, Counted, put_registers};
 use lit_read::read;
-use lit_syntax::Test;
+use lit_report::{Counted, write_interleaving};
 use std::alloc::Global;
 use std::io::{Read, Write};
-
-/// Writes the outcome of a schedule, and whether it meets the condition. Takes no memory.
-fn write_interleaving<W: Write>(
-    output: &mut Counted<W>,
-    test: &Test,
-    outcome: &[u32],
-) -> Result<(), RunFault>
-    requires one_each { length outcome.now ≡ length (names_of test.now) }
-    ensures written { OnOk result
-        (Appends (W.contents (device_of output.old)) (W.contents (device_of output.new)) (interleaving_text test.now outcome.now)) }
-    ensures not_failed { OnOk result (failures_of output.new ≡ failures_of output.old) }
-    ensures begun { OnErr result
-        (AppendsBeginning (W.contents (device_of output.old)) (W.contents (device_of output.new))
-        (interleaving_text test.now outcome.now)) }
-    ensures failed { OnErr result (failures_of output.new ≡ one_more (failures_of output.old)) }
-    ensures fault { IfErr result (λ fault. fault ≡ RunFault.OutputFailed) }
-{
-    let mut buffer = Buffer::new();
-    put_head(&mut buffer, output, test);
-    buffer.put(output, b"interleaving");
-    let names = written_names(test);
-    put_registers(&mut buffer, output, test, names.as_slice(), outcome);
-    buffer.put(output, b"\nmeets ");
-    buffer.put(output, word_for(meets(test, outcome)));
-    buffer.put(output, b"\n");
-    finish(buffer, output)
-}
 
 /// Writes the answer for a text and a schedule. Where there is none, it writes nothing.
 fn answer_schedule<W: Write>(
@@ -72,7 +37,8 @@ fn answer_schedule<W: Write>(
     let test = read(alloc, text)?;
     let agents = agents_of(alloc, &test, schedule)?;
     let outcome = interleave(alloc, &test, &agents)?;
-    write_interleaving(output, &test, &outcome)
+    write_interleaving(output, &test, &outcome)?;
+    Ok(())
 }
 
 /// Reads a litmus text as `run` does, and writes the outcome of a schedule, where the agents carry out their

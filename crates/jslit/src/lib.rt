@@ -3,9 +3,9 @@
 //! `run` reads a litmus text from a reader and writes its report to a writer: its contract is the theorem of this
 //! repository, from the bytes in to the bytes out. `run_alone` is the same on the thread that calls. `run_schedule` carries a
 //! test out step by step, in turns that the caller names. `program` is the program around both. The definitions stand in specs/:
-//! `Answer` (what a run answers for a text), `InterleavingAnswer`, `Schedule`, `ReportText` (`lit_print` has the text of an
-//! entry), `Verdict`, `Devices` and `ProgramAnswer` (`lit_words` has what the words of the command line ask for); those in
-//! `Internal` serve private contracts, and say how a fault of a lower crate becomes one of a run.
+//! `Answer` (what a run answers for a text; `lit_report` has the text of a report), `InterleavingAnswer`, `Schedule`, `Devices` and
+//! `ProgramAnswer` (`lit_command_line` has what the words of the command line ask for); those in `Internal` serve private contracts, and
+//! say how a fault of a lower crate becomes one of a run.
 #![tactic(auto)]
 
 mod command;
@@ -15,8 +15,6 @@ mod interleaving;
 pub mod laws;
 mod progress;
 mod reading;
-mod report;
-mod verdict;
 mod watch;
 
 pub use command::{
@@ -25,9 +23,9 @@ pub use command::{
 pub use engine::{run, run_alone, run_watched};
 pub use fault::RunFault;
 pub use interleaving::run_schedule;
-pub use lit_print::Counted;
-pub use lit_words::{Line, Options, VERSION, explain_words, line, no_words, words_of};
+pub use lit_command_line::{Line, VERSION, explain_words, line, no_words, words_of};
+pub use lit_options::Options;
+pub use lit_report::{Counted, write_bytes};
 pub use progress::Progress;
 pub use reading::read_text;
-pub use report::write_bytes;
 pub use watch::Watch;

@@ -2,12 +2,12 @@
 
 ghost use Rattle.std.specs.Prelude.{◌≡◌, ◌+◌, ◌-◌, ◌^◌, ◌<◌, ◌≤◌, length, vec_len, IfOk, OnOk, IfErr};
 ghost use Rattle.std.specs.Io.KnownBytes.{Consumes};
-ghost use Rattle.lit_print.specs.Counted.{device_of, failures_of};
+ghost use Rattle.lit_report.specs.Counted.{device_of, failures_of};
 ghost use Rattle.jslit.specs.Devices.{ConsumesBeginning, IsReadFailure, IsInputText};
 ghost use Rattle.jslit.specs.Internal.Reading.{HasRead};
 
 use crate::fault::RunFault;
-use lit_print::Counted;
+use lit_report::Counted;
 use lit_syntax::TEXT_LIMIT;
 use std::alloc::Global;
 use std::io::Read;

@@ -2,7 +2,7 @@
 use Rattle.std.specs.Prelude.{◌≡◌, ◌⊎◌, ◌++◌, ℕ, List, Some, length, take, drop}
 use Rattle.jslit.specs.declared.fault.RunFault.{RunFault}
 use Rattle.jslit.specs.Answer.{status_of}
-use Rattle.jslit.specs.RefusalText.{refusal_line}
+use Rattle.jslit.specs.Answer.{refusal_line}
 use Rattle.jslit.specs.Devices.{OfInputText}
 
 -- The answer stands at the beginning of the room, as far as it fits; behind it the room is as it was. The count is the whole answer's.

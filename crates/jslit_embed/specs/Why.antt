@@ -8,7 +8,7 @@ use Rattle.lit_reason.specs.declared.question.Question.TheVariants.{InClass, OfC
 use Rattle.lit_reason.specs.declared.question.TheConstants.{MOST_LIMIT}
 use Rattle.lit_reason.specs.Explained.{IsFaultOn}
 use Rattle.lit_valid.specs.declared.class.Class.TheVariants.{Met, Unmet}
-use Rattle.jslit.specs.RefusalText.{plan_fault_line, read_fault_line}
+use Rattle.lit_report.specs.RefusalText.{plan_fault_line, read_fault_line}
 
 -- the question about the choice that these words select
 abbrev pub IsOfWords : List ℕ → Question → Type 0

@@ -2,9 +2,9 @@
 
 ghost use Rattle.std.specs.Prelude.{◌≡◌, ◌≢◌, ◌⊎◌};
 ghost use Rattle.jslit.specs.Answer.{IsCheckStatus, status_of};
-ghost use Rattle.jslit.specs.RefusalText.{refusal_line};
+ghost use Rattle.jslit.specs.Answer.{refusal_line};
 ghost use Rattle.jslit_embed.specs.Handed.{HandsNothing, HandsOut, IsEmbedStatus};
-ghost use Rattle.lit_print.specs.Counted.{device_of, failures_of};
+ghost use Rattle.lit_report.specs.Counted.{device_of, failures_of};
 
 use jslit::{Counted, RunFault, say};
 use std::alloc::Global;

@@ -2,7 +2,7 @@
 
 use super::calls::{prints, writes_by};
 use jslit::Options;
-use lit_texts::TWELVE_BRANCHES;
+use lit_test_texts::TWELVE_BRANCHES;
 use std::test::Fail;
 
 const REPORT: &str = "test branches

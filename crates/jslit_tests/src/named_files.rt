@@ -3,7 +3,7 @@
 use super::calls::answers;
 use super::data::independent_reads::INDEPENDENT_READS;
 use super::workers::INDEPENDENT_READS_QUICK;
-use lit_texts::STORE_BUFFERING;
+use lit_test_texts::STORE_BUFFERING;
 use std::alloc::AllocGlobal;
 use std::fs;
 use std::process::Abort;

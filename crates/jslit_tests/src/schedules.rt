@@ -2,7 +2,7 @@
 
 use super::calls::answers;
 use jslit::{Counted, check_schedule, run_schedule};
-use lit_texts::{EXCHANGES, LOAD_BUFFERING, STORE_BUFFERING, VIEWED_READ};
+use lit_test_texts::{EXCHANGES, LOAD_BUFFERING, STORE_BUFFERING, VIEWED_READ};
 use std::alloc::AllocGlobal;
 use std::process::Abort;
 use std::rt::Files;

@@ -3,9 +3,9 @@
 ghost use Rattle.std.specs.Prelude.{◌≡◌, ◌⊎◌, ℕ, List, true, false};
 ghost use Rattle.jslit_text.specs.Told.{HasTold};
 
+use lit_command_line::VERSION;
 use lit_json::text_line;
 use lit_syntax::TEXT_LIMIT;
-use lit_words::VERSION;
 use std::alloc::Global;
 use std::io::{Read, Write};
 use std::rt::Files;

@@ -1,7 +1,7 @@
 //! The words of the command line.
 
 use clap::{Arg, ArgAction, Command, Error};
-use lit_words::VERSION;
+use lit_command_line::VERSION;
 use std::alloc::{AllocError, Global};
 use std::convert::AsStr;
 

@@ -6,7 +6,7 @@ mod command;
 
 use crate::answer::answer;
 use crate::command::file_of;
-use lit_words::{explain_words, no_words, words_of};
+use lit_command_line::{explain_words, no_words, words_of};
 use std::process::ExitCode;
 
 fn main(rt: HostRuntime) -> ExitCode {

@@ -1,9 +1,9 @@
 -- What is printed of an answer, and which status a failed read has.
 use Rattle.std.proofs.Common.{◌≡◌, ◌≤◌, Bool, List, Option, arith, refl, subst, ℕ}
 use Rattle.std.specs.Io.KnownBytes.{Appends}
-use Rattle.lit_print.specs.Counted.{device_of}
-use Rattle.lit_print.specs.Writing.{AppendsBeginning}
-use Rattle.lit_print.specs.declared.counted.Counted.{Counted}
+use Rattle.lit_report.specs.Counted.{device_of}
+use Rattle.lit_report.specs.Writing.{AppendsBeginning}
+use Rattle.lit_report.specs.declared.counted.Counted.{Counted}
 use Rattle.lit_reason.specs.declared.explanation.Answer.{Answer}
 use Rattle.lit_reason.specs.declared.question.Asked.{Asked}
 use Rattle.lit_reason.specs.Explained.{HasAnswerOn, IsReasonOn}

@@ -1,7 +1,7 @@
 -- What the program prints about a text (this project's own).
 use Rattle.std.specs.Prelude.{◌⊎◌, ◌<◌, ℕ, Bool, false, Option, List}
-use Rattle.lit_print.specs.declared.counted.Counted.{Counted}
-use Rattle.lit_print.specs.Counted.{device_of, failures_of}
+use Rattle.lit_report.specs.declared.counted.Counted.{Counted}
+use Rattle.lit_report.specs.Counted.{device_of, failures_of}
 use Rattle.lit_reason.specs.declared.fault.ReasonFault.TheVariants as reasons
 use Rattle.lit_reason.specs.declared.question.Asked.{Asked}
 use Rattle.lit_reason.specs.Explained.{IsFaultOn, IsReasonOn}

@@ -5,8 +5,8 @@ ghost use Rattle.std.specs.Io.KnownBytes.{Appends};
 ghost use Rattle.jslit.specs.Answer.{IsStatus};
 ghost use Rattle.jslit.specs.Devices.{OfInputText};
 ghost use Rattle.jslit_why.specs.Printed.{HasBegun, HasExplained, HasRefused};
-ghost use Rattle.lit_print.specs.Counted.{device_of, failures_of};
-ghost use Rattle.lit_print.specs.Writing.{AppendsBeginning};
+ghost use Rattle.lit_report.specs.Counted.{device_of, failures_of};
+ghost use Rattle.lit_report.specs.Writing.{AppendsBeginning};
 ghost use Rattle.lit_reason.specs.Explained.{HasOtherCondition};
 
 use crate::line::line;

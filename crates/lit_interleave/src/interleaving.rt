@@ -4,7 +4,6 @@ ghost use Rattle.std.specs.Prelude.{◌≡◌, ◌<◌, All, IfOk, length, map};
 ghost use Rattle.lit_paths.specs.Outcome.{outcome_of};
 ghost use Rattle.lit_interleave.specs.Interleaving.{beginning, interleaved};
 
-use crate::fault::SearchFault;
 use crate::runner::Runner;
 use lit_paths::written_names;
 use lit_syntax::Test;
@@ -37,8 +36,8 @@ fn outcome_of(alloc: Global, test: &Test, runners: &[Runner<'_>]) -> Result<Vec<
 /// The outcome of a schedule: each access is carried out at once, on a block whose bytes are 0 at first. The schedule
 /// lists agents by number, each below `test.agents()`. A turn of an agent carries out its statements up to and
 /// including the next access; a turn of one that has ended does nothing. After the schedule each agent carries out what
-/// it has left, in order. Answers `SearchFault::OutOfMemory` where a growth was refused, and no other fault.
-pub fn interleave(alloc: Global, test: &Test, schedule: &[u8]) -> Result<Vec<u32>, SearchFault>
+/// it has left, in order. Answers an error where a growth was refused.
+pub fn interleave(alloc: Global, test: &Test, schedule: &[u8]) -> Result<Vec<u32>, AllocError>
     requires { All (λ agent. agent < length test.now.agents) schedule.now }
     ensures { IfOk result (λ outcome. outcome.items ≡ interleaved test.now schedule.now) }
 {
@@ -50,5 +49,5 @@ pub fn interleave(alloc: Global, test: &Test, schedule: &[u8]) -> Result<Vec<u32
     'ends: for agent in 0..test.agents() {
         runners[agent].finish(&mut block)?;
     }
-    Ok(outcome_of(alloc, test, &runners)?)
+    outcome_of(alloc, test, &runners)
 }

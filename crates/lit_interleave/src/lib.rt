@@ -7,10 +7,8 @@
 
 mod block;
 mod deciding;
-mod fault;
 mod interleaving;
 pub mod laws;
 mod runner;
 
-pub use fault::SearchFault;
 pub use interleaving::interleave;

@@ -8,7 +8,7 @@ use Rattle.std.proofs.KnownBytes.{Appends-trans}
 use Rattle.lit_syntax.specs.Syntax.{Litmus}
 use Rattle.lit_valid.specs.Gives.{Gives, HasLeastOrder}
 use Rattle.lit_search.specs.Report.{IsReport, Report, entry_at, in_range}
-use Rattle.lit_print.specs.Writing.{HasPut, IsFinished, Writing}
+use Rattle.lit_report.specs.Writing.{HasPut, IsFinished, Writing}
 use Rattle.lit_reason.specs.Example.{HasNoOutcome, IsEntryOf}
 
 -- a number in a range of one

@@ -8,7 +8,7 @@ use Rattle.lit_rel.specs.Part.{PartModel, part_events}
 use Rattle.lit_valid.specs.Completion.{HasCompletion, IsOnCombination}
 use Rattle.lit_valid.specs.Entry.{Entry}
 use Rattle.lit_valid.specs.Gives.{Gives}
-use Rattle.lit_print.specs.EntryText.{entry_text, event_name}
+use Rattle.lit_report.specs.EntryText.{entry_text, event_name}
 use Rattle.lit_why.specs.Refusal.{IsRefusal}
 use Rattle.lit_why.specs.declared.refusals.causes.Refusal.{Refusal}
 use Rattle.lit_reason.specs.AnswerText.{IsPartOf}

@@ -14,7 +14,7 @@ use Rattle.lit_valid.specs.Entry.{Entry}
 use Rattle.lit_valid.specs.Gives.{GivesRace}
 use Rattle.lit_solve.specs.declared.goal.Goal.{Goal}
 use Rattle.lit_solve.specs.declared.goal.Goal.TheVariants as goals
-use Rattle.lit_print.specs.EntryText.{choice_lines, entry_text, event_name, line}
+use Rattle.lit_report.specs.EntryText.{choice_lines, entry_text, event_name, line}
 use Rattle.lit_why.specs.LeastMixing.{IsShown}
 use Rattle.lit_why.specs.RacingPair.{IsLeastRacingPair}
 use Rattle.lit_why.specs.Refusal.{IsRefusal}
@@ -91,7 +91,7 @@ IsRaceText t text = ((n : ℕ) × GivesRace t n × IsPairText t n text) ⊎ (((n
 abbrev pub clause_of : Refusal → Clause
 clause_of (FalseGuard agent place) = Paths
 clause_of (BeforeItself event) = HappensBefore
-clause_of (Incoherent read byte source hidden_by) = CoherentReads
+clause_of (Incoherent read byte source cause) = CoherentReads
 clause_of (Torn read source other) = TearFreeReads
 clause_of NoOrder = MemoryOrder
 

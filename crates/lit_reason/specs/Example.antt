@@ -3,7 +3,7 @@ use Rattle.std.specs.Prelude.{◌≡◌, ◌⊎◌, ℕ, List, []}
 use Rattle.lit_syntax.specs.Syntax.{Litmus}
 use Rattle.lit_valid.specs.Entry.{Entry}
 use Rattle.lit_valid.specs.Gives.{Gives, HasLeastOrder}
-use Rattle.lit_print.specs.EntryText.{entry_text}
+use Rattle.lit_report.specs.EntryText.{entry_text}
 
 -- the outcome of choice n, and the least memory-order of its valid executions
 pub record IsEntryOf (t : Litmus) (n : ℕ) (entry : Entry) : Type 0 where

@@ -3,7 +3,7 @@ use Rattle.std.specs.Prelude.{◌≡◌, ◌≢◌, ℕ, ◌+◌, ◌<◌, List,
 use Rattle.lit_syntax.specs.Syntax.{Litmus}
 use Rattle.lit_read.specs.CanonicalText.{canonical}
 use Rattle.lit_read.specs.Spelling.{Spells}
-use Rattle.lit_print.specs.EntryText.{line}
+use Rattle.lit_report.specs.EntryText.{line}
 use Rattle.lit_reason.specs.declared.question.Asked.{Asked}
 
 -- the beginning of a text up to its last line, which has some byte where the text has, and in which a byte 10 stands at the end alone

@@ -2,12 +2,12 @@
 
 ghost use Rattle.std.specs.Prelude.{◌≡◌, ◌<◌, IfOk, length};
 ghost use Rattle.lit_paths.specs.Choice.{choices_of};
-ghost use Rattle.lit_print.specs.EntryText.{choice_lines};
+ghost use Rattle.lit_report.specs.EntryText.{choice_lines};
 ghost use Rattle.lit_reason.specs.Example.{IsExampleText};
 
 use crate::found::found_of;
 use lit_paths::Plan;
-use lit_print::{Buffer, Counted, EntryCache, put_choice_lines, put_entry};
+use lit_report::{Buffer, Counted, EntryCache, put_choice_lines, put_entry};
 use std::alloc::{AllocError, Global};
 
 /// The text of a choice's entry in a report, empty where no valid execution has the choice. Fails only where memory is refused.

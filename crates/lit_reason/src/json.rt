@@ -10,11 +10,11 @@ use crate::execution::execution_value;
 use crate::found::found_of;
 use crate::scene::Scene;
 use crate::statements::Statements;
+use lit_command_line::VERSION;
 use lit_paths::Plan;
 use lit_search::Class;
 use lit_solve::Goal;
 use lit_why::{attempts, least_mixing};
-use lit_words::VERSION;
 use serde_json::{Map, Value, json};
 use std::alloc::{AllocError, Global};
 

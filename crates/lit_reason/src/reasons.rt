@@ -2,7 +2,7 @@
 
 use crate::cycles::put_cycle;
 use crate::scene::Scene;
-use lit_why::{Refusal, StepKind};
+use lit_why::{Incoherence, Refusal, StepKind};
 use std::alloc::Global;
 use std::io;
 use std::io::Write;
@@ -52,18 +52,18 @@ fn put_incoherent(
     read: u8,
     byte: u8,
     source: u8,
-    hidden_by: Option<u8>,
+    cause: Incoherence,
 ) -> io::Result<()> {
     buffer.write_all(b"  ")?;
     scene.put_placed(buffer, read)?;
     write!(buffer, " reads byte {byte} from ")?;
     scene.put_placed(buffer, source)?;
-    match hidden_by {
-        None => {
+    match cause {
+        Incoherence::ReadFirst => {
             buffer.write_all(b", which comes after it\n")?;
             put_chain(buffer, scene, read, source)
         }
-        Some(other) => {
+        Incoherence::HiddenBy(other) => {
             buffer.write_all(b", which ")?;
             scene.put_placed(buffer, other)?;
             buffer.write_all(b" writes over before the read\n")?;
@@ -151,9 +151,9 @@ pub(crate) fn put_reason(alloc: Global, buffer: &mut Vec<u8>, scene: &Scene<'_>)
                 read,
                 byte,
                 source,
-                hidden_by,
+                cause,
             },
-        ) => { put_incoherent(buffer, scene, read, byte, source, hidden_by) }
+        ) => { put_incoherent(buffer, scene, read, byte, source, cause) }
         Some(
             Refusal::Torn {
                 read,

@@ -3,7 +3,7 @@
 use crate::clauses::Clause;
 use crate::execution::{name_value, pair_value};
 use crate::scene::Scene;
-use lit_why::{DerivationLine, Reason, Refusal, StepKind};
+use lit_why::{DerivationLine, Incoherence, Reason, Refusal, StepKind};
 use serde_json::{Value, json};
 use std::alloc::{AllocError, Global};
 
@@ -82,15 +82,15 @@ fn incoherent_value(
     scene: &Scene<'_>,
     clause: &str,
     (read, byte, source): (u8, u8, u8),
-    hidden_by: Option<u8>,
+    cause: Incoherence,
 ) -> Result<Value, AllocError> {
     let mut chains = Vec::new(alloc);
-    let hidden = match hidden_by {
-        None => {
+    let hidden = match cause {
+        Incoherence::ReadFirst => {
             chains.push(chain_value(alloc, scene, read, source)?)?;
             Value::Null
         }
-        Some(other) => {
+        Incoherence::HiddenBy(other) => {
             chains.push(chain_value(alloc, scene, source, other)?)?;
             chains.push(chain_value(alloc, scene, other, read)?)?;
             name_value(alloc, scene, other)?
@@ -123,8 +123,8 @@ pub(crate) fn refusal_value(alloc: Global, scene: &Scene<'_>) -> Result<Value, A
             read,
             byte,
             source,
-            hidden_by,
-        } => incoherent_value(alloc, scene, clause, (read, byte, source), hidden_by),
+            cause,
+        } => incoherent_value(alloc, scene, clause, (read, byte, source), cause),
         Refusal::Torn {
             read,
             source,

@@ -3,7 +3,7 @@
 ghost use Rattle.std.specs.Prelude.{◌≡◌, ℕ, ◌<◌, ◌++◌, List, MatchOption, OnOk, length};
 ghost use Rattle.lit_paths.specs.Choice.{choices_of};
 ghost use Rattle.lit_paths.specs.Event.{event_at};
-ghost use Rattle.lit_print.specs.EntryText.{event_name as name_of};
+ghost use Rattle.lit_report.specs.EntryText.{event_name as name_of};
 ghost use Rattle.lit_rel.specs.Part.{part_events};
 ghost use Rattle.lit_valid.specs.Completion.{HasCompletion};
 ghost use Rattle.lit_why.specs.Refusal.{IsRefusal};
@@ -32,7 +32,7 @@ pub(crate) struct EventName<'t> {
 
 impl fmt::Display for EventName<'_> {
     ghost use Rattle.std.specs.Prelude.{Some};
-    ghost use Rattle.lit_print.specs.EntryText.{event_name};
+    ghost use Rattle.lit_report.specs.EntryText.{event_name};
 
     ghost output = { λ name. Some (event_name name.test.now name.event.now) };
 

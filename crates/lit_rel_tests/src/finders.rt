@@ -4,7 +4,7 @@ use crate::rel::{part_of, plan_of, test_of};
 use lit_order::{ForcedFinder, OrderFinder, PlainFinder};
 use lit_paths::Plan;
 use lit_rel::Part;
-use lit_texts::{
+use lit_test_texts::{
     BOTH_EXCHANGE_FOR_ONE, FAILED_EXCHANGE, INDEPENDENT_READS, INDEPENDENT_READS_PLAIN,
     LOAD_BUFFERING, LOAD_BUFFERING_ATOMIC, MESSAGE_PASSING, MESSAGE_PASSING_PLAIN, OWN_STORE,
     READ_READ_COHERENCE_ATOMIC, READ_READ_COHERENCE_PLAIN, STORE_BUFFERING, STORE_BUFFERING_MIXED,

@@ -236,12 +236,12 @@ module _ (laws : Laws) (p : Litmus × ℕ) (from to : ℕ) (boxes : BoxesModel) 
         let later = new_here (old ++ (y ∷ [])) ys all.2 k e at in
         (later.0, λ o. later.1 (outcome_stays old (y ∷ []) e.outcome o))
 
-    pub gained_more : (old mid new : List Entry) (mark some all : Bool) → Gains t (λ n. IsOfFirst t boxes from to i n) old mid mark some
+    pub gained_more : (old mid new : List Entry) (raced some all : Bool) → Gains t (λ n. IsOfFirst t boxes from to i n) old mid raced some
         → AddsEntries box mid new → HasEachOutcome box new → IsTrue all ↔ (IsTrue some ⊎ HasSolution box Race)
-        → Gains t (λ n. IsOfFirst t boxes from to (i + 1) n) old new mark all
-    gained_more old mid new mark some all before adds each marks =
+        → Gains t (λ n. IsOfFirst t boxes from to (i + 1) n) old new raced all
+    gained_more old mid new raced some all before adds each marks =
         gains_more t (λ n. IsOfFirst t boxes from to i n) (λ n. IsOfBox t boxes from to i n) (λ n. IsOfFirst t boxes from to (i + 1) n)
-        (of_more t boxes from to i) old mid new mark some all (λ m n of is. boxes_rise of.place i m n of.before inside of.is is) before here
+        (of_more t boxes from to i) old mid new raced some all (λ m n of is. boxes_rise of.place i m n of.before inside of.is is) before here
       where
         here : Gains t (λ n. IsOfBox t boxes from to i n) mid new some all
         here = record {
@@ -260,9 +260,9 @@ module _ (laws : Laws) (p : Litmus × ℕ) (from to : ℕ) (boxes : BoxesModel) 
   pub none_at_all : (class : Class) → HasNoneBefore t boxes class from to (boxes_len boxes) → HasNoneOf t class (in_range from to)
   none_at_all class none n among g = none n (its_box n among) g
 
-  pub gained_all : (old new : List Entry) (mark all : Bool) → Gains t (λ n. IsOfFirst t boxes from to (boxes_len boxes) n) old new mark all
-      → Gains t (λ n. IsTrue (in_range from to n)) old new mark all
-  gained_all old new mark all gains =
+  pub gained_all : (old new : List Entry) (raced all : Bool) → Gains t (λ n. IsOfFirst t boxes from to (boxes_len boxes) n) old new raced all
+      → Gains t (λ n. IsTrue (in_range from to n)) old new raced all
+  gained_all old new raced all gains =
       gains_more t (λ n. IsOfFirst t boxes from to (boxes_len boxes) n) (λ n. ⊥) (λ n. IsTrue (in_range from to n))
       (λ n. (λ of. elim of [ inl is ↦ is.is.among | inr none ↦ absurd none ], λ among. inl (its_box n among)))
-      old new new mark all all (λ m n of none. absurd none) gains (gains_none t (λ n. ⊥) new all (λ n none. none))
+      old new new raced all all (λ m n of none. absurd none) gains (gains_none t (λ n. ⊥) new all (λ n none. none))

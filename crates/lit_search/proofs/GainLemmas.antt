@@ -27,8 +27,8 @@ cut_back a b count is on = ap (λ (n : ℕ). take n b) is ∙ ap (take (length a
 
 -- ---- what is gained
 module _ (t : Litmus) where
-  pub gains_none : (Numbers : ℕ → Type 0) (a : List Entry) (mark : Bool) → ((n : ℕ) → ¬ Numbers n) → Gains t Numbers a a mark mark
-  gains_none Numbers a mark none = record {
+  pub gains_none : (Numbers : ℕ → Type 0) (a : List Entry) (raced : Bool) → ((n : ℕ) → ¬ Numbers n) → Gains t Numbers a a raced raced
+  gains_none Numbers a raced none = record {
     goes_on = record { added = []; is = sym (append-nil a) };
     each = λ e there. absurd (let f = there.1 in cc);
     lacked = λ e there. absurd (let f = there.1 in cc);
@@ -37,9 +37,9 @@ module _ (t : Litmus) where
   }
 
   -- by some, and then by others behind them
-  module _ (First Second Both : ℕ → Type 0) (same : (n : ℕ) → (First n ⊎ Second n) ↔ Both n) (a b c : List Entry) (mark some all : Bool)
-      (behind : (m n : ℕ) → First m → Second n → m < n) (g : Gains t First a b mark some) (h : Gains t Second b c some all) where
-    pub gains_more : Gains t Both a c mark all
+  module _ (First Second Both : ℕ → Type 0) (same : (n : ℕ) → (First n ⊎ Second n) ↔ Both n) (a b c : List Entry) (raced some all : Bool)
+      (behind : (m n : ℕ) → First m → Second n → m < n) (g : Gains t First a b raced some) (h : Gains t Second b c some all) where
+    pub gains_more : Gains t Both a c raced all
     gains_more = record {
       goes_on = goes_more a b c g.goes_on h.goes_on;
       each = λ e there. elim (in_one g.goes_on.added h.goes_on.added there.0 e there.1) [
@@ -102,7 +102,7 @@ module _ (t : Litmus) where
     whole = λ n outcome p gives.
         let w = h.listed.whole n outcome p gives in
         retained_from es outcome (record { place = w.0; entry = w.1; is = w.2; same = w.3 });
-    race = (λ p. inr (h.marked.0 p), λ one. h.marked.1 (elim one [ inl p ↦ absurd (false≢true p) | inr q ↦ q ]));
+    race = (λ p. inr (h.raced.0 p), λ one. h.raced.1 (elim one [ inl p ↦ absurd (false≢true p) | inr q ↦ q ]));
   }
 
   pub reported : (numbers : ℕ → Bool) (es : List Entry) (race : Bool) → Gains t (λ n. IsTrue (numbers n)) [] es false race
@@ -116,33 +116,33 @@ module _ (t : Litmus) where
           record { among = k.among; gives = k.gives; least_choice = k.least_choice; least_order = k.least_order };
       whole = λ n outcome p gives. let k = retained_to es outcome (g.whole n outcome p gives) in (k.place, k.entry, k.is, k.same);
     };
-    marked = (λ p. elim (g.race.0 p) [ inl q ↦ absurd (false≢true q) | inr one ↦ one ], λ one. g.race.1 (inr one));
+    raced = (λ p. elim (g.race.0 p) [ inl q ↦ absurd (false≢true q) | inr one ↦ one ], λ one. g.race.1 (inr one));
   }
 
   -- the choices of a range besides those taken before, which have lesser numbers
-  pub taken_more : (taken : ℕ → Bool) (end from to : ℕ) (before after : List Entry) (race mark : Bool) → end ≤ from → from ≤ to → IsDistinct are_same before
-      → Gains t (λ n. IsTrue (in_range from to n)) before after race mark
+  pub taken_more : (taken : ℕ → Bool) (end from to : ℕ) (before after : List Entry) (race raced : Bool) → end ≤ from → from ≤ to → IsDistinct are_same before
+      → Gains t (λ n. IsTrue (in_range from to n)) before after race raced
       → HasTaken taken (record { test = t; end = end; report = record { entries = risen before; race = race } })
-      → HasTaken (in_either taken (in_range from to)) (record { test = t; end = to; report = record { entries = risen after; race = mark } })
-  taken_more taken end from to before after race mark follows order apart gains h = record {
+      → HasTaken (in_either taken (in_range from to)) (record { test = t; end = to; report = record { entries = risen after; race = raced } })
+  taken_more taken end from to before after race raced follows order apart gains h = record {
     below = λ n p. elim (either_cases (taken n) (in_range from to n) p) [
       | inl q ↦ omega (arith, h.below n q, follows, order)
       | inr q ↦ before_end from to n q
     ];
-    reported = reported (in_either taken (in_range from to)) after mark
+    reported = reported (in_either taken (in_range from to)) after raced
         (gains_more (λ n. IsTrue (taken n)) (λ n. IsTrue (in_range from to n)) (λ n. IsTrue (in_either taken (in_range from to) n))
         (λ n. (
           λ some. elim some [ inl p ↦ or_left (taken n) (in_range from to n) p | inr q ↦ or_right (taken n) (in_range from to n) q ],
           λ p. either_cases (taken n) (in_range from to n) p,
         ))
-        [] before after false race mark
+        [] before after false race raced
         (λ m n p q. omega (arith, h.below m p, follows, not_below from to n q)) (recorded taken before race apart h.reported) gains);
   }
 
   -- a range up to a number, and one from there on
-  pub gains_on : (from mid to : ℕ) → from ≤ mid → mid ≤ to → (a b c : List Entry) (mark some all : Bool) → Gains t (λ n. IsTrue (in_range from mid n)) a b mark some
-      → Gains t (λ n. IsTrue (in_range mid to n)) b c some all → Gains t (λ n. IsTrue (in_range from to n)) a c mark all
-  gains_on from mid to low high a b c mark some all g h =
+  pub gains_on : (from mid to : ℕ) → from ≤ mid → mid ≤ to → (a b c : List Entry) (raced some all : Bool) → Gains t (λ n. IsTrue (in_range from mid n)) a b raced some
+      → Gains t (λ n. IsTrue (in_range mid to n)) b c some all → Gains t (λ n. IsTrue (in_range from to n)) a c raced all
+  gains_on from mid to low high a b c raced some all g h =
       gains_more (λ n. IsTrue (in_range from mid n)) (λ n. IsTrue (in_range mid to n)) (λ n. IsTrue (in_range from to n))
       (λ n. (
         λ either. elim either [
@@ -154,7 +154,7 @@ module _ (t : Litmus) where
           | inr more ↦ inr (within mid to n more (before_end from to n p))
         ],
       ))
-      a b c mark some all (λ m n p q. omega (arith, before_end from mid m p, not_below mid to n q)) g h
+      a b c raced some all (λ m n p q. omega (arith, before_end from mid m p, not_below mid to n q)) g h
 
 -- a range without a number has nothing
 pub none_within : (from n : ℕ) → IsTrue (in_range from from n) → ⊥

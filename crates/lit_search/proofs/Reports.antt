@@ -115,13 +115,13 @@ into t numbers a b h k e s =
 AreEntries-unique : (t : Litmus) (numbers : ℕ → Bool) (a b : List Entry) → AreEntries t numbers a → AreEntries t numbers b → a ≡ b
 AreEntries-unique t numbers a b h k = same_rising a b h.rising k.rising (into t numbers a b h k) (into t numbers b a k h)
 
--- ---- entries with the mark of data races
+-- ---- entries, and whether there is a data race
 pub IsReport-same : (t : Litmus) (some others : ℕ → Bool) (r : Report) → ((n : ℕ) → n < length (choices_of t) → some n ≡ others n) → IsReport t some r → IsReport t others r
 IsReport-same t some others r same h = record {
   listed = AreEntries-same t some others r.entries same h.listed;
-  marked = (
-    (λ race. let one = h.marked.0 race in (one.0, sym (same one.0 (race_listed one.0 one.2)) ∙ one.1, one.2)),
-    (λ one. h.marked.1 (one.0, same one.0 (race_listed one.0 one.2) ∙ one.1, one.2)),
+  raced = (
+    (λ race. let one = h.raced.0 race in (one.0, sym (same one.0 (race_listed one.0 one.2)) ∙ one.1, one.2)),
+    (λ one. h.raced.1 (one.0, same one.0 (race_listed one.0 one.2) ∙ one.1, one.2)),
   );
 }
   where
@@ -131,14 +131,14 @@ IsReport-same t some others r same h = record {
 pub IsReport-merged : (t : Litmus) (some others : ℕ → Bool) (a b c : Report) → IsReport t some a → IsReport t others b → IsMerge a b c → IsReport t (in_either some others) c
 IsReport-merged t some others a b c h k m = record {
   listed = AreEntries-merged t some others a.entries b.entries c.entries h.listed k.listed m.entries;
-  marked = (
+  raced = (
     λ p. elim (either_cases a.race b.race (sym m.race ∙ p)) [
-      | inl q ↦ (let one = h.marked.0 q in (one.0, or_left (some one.0) (others one.0) one.1, one.2))
-      | inr q ↦ (let one = k.marked.0 q in (one.0, or_right (some one.0) (others one.0) one.1, one.2))
+      | inl q ↦ (let one = h.raced.0 q in (one.0, or_left (some one.0) (others one.0) one.1, one.2))
+      | inr q ↦ (let one = k.raced.0 q in (one.0, or_right (some one.0) (others one.0) one.1, one.2))
     ],
     λ one. m.race ∙ elim (either_cases (some one.0) (others one.0) one.1) [
-      | inl p ↦ or_left a.race b.race (h.marked.1 (one.0, p, one.2))
-      | inr q ↦ or_right a.race b.race (k.marked.1 (one.0, q, one.2))
+      | inl p ↦ or_left a.race b.race (h.raced.1 (one.0, p, one.2))
+      | inr q ↦ or_right a.race b.race (k.raced.1 (one.0, q, one.2))
     ],
   );
 }
@@ -146,8 +146,8 @@ IsReport-merged t some others a b c h k m = record {
 pub IsReport-unique : (t : Litmus) (numbers : ℕ → Bool) (a b : Report) → IsReport t numbers a → IsReport t numbers b → a ≡ b
 IsReport-unique t numbers a b h k =
     let entries : a.entries ≡ b.entries = AreEntries-unique t numbers a.entries b.entries h.listed k.listed in
-    let race : a.race ≡ b.race = same_test a.race b.race (λ p. k.marked.1 (h.marked.0 p)) (λ q. h.marked.1 (k.marked.0 q)) in
-    ap (λ (xs : List Entry). record { entries = xs; race = a.race }) entries ∙ ap (λ (mark : Bool). record { entries = b.entries; race = mark }) race
+    let race : a.race ≡ b.race = same_test a.race b.race (λ p. k.raced.1 (h.raced.0 p)) (λ q. h.raced.1 (k.raced.0 q)) in
+    ap (λ (xs : List Entry). record { entries = xs; race = a.race }) entries ∙ ap (λ (raced : Bool). record { entries = b.entries; race = raced }) race
 
 -- ---- the outcome of each schedule in the report of all choices
 pub is_reported : Laws → (t : Litmus) (schedule : List ℕ) (report : Report) → HasExecution t schedule → IsReport t (in_range 0 (length (choices_of t))) report → IsReported t schedule report

@@ -1,5 +1,5 @@
--- The merge of two reports (this project's own): the outcomes of both, each with the lesser of its examples, and marked
--- where one of the two is.
+-- The merge of two reports (this project's own): the outcomes of both, each with the lesser of its examples, and a data race where one
+-- of the two has one.
 use Rattle.std.specs.Prelude.{◌≡◌, ◌⊎◌, ◌||◌, IsFalse, List}
 use Rattle.std.specs.Ordering.{is_gt}
 use Rattle.std.specs.List.Sorted.{IsStrictlySortedBy}

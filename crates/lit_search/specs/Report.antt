@@ -10,7 +10,7 @@ use Rattle.lit_syntax.specs.Syntax.{Litmus}
 pub use Rattle.lit_valid.specs.Entry.{Entry, HasEntry}
 use Rattle.lit_valid.specs.Gives.{Gives, GivesRace, HasLeastOrder}
 
--- entries, and the mark of data races
+-- entries, and whether there is a data race
 pub record Report : Type 0 where
   pub entries : List Entry
   pub race : Bool
@@ -60,8 +60,8 @@ pub record AreEntries (t : Litmus) (numbers : ℕ → Bool) (entries : List Entr
   pub whole : (n : ℕ) (outcome : List ℕ) → IsTrue (numbers n) → Gives t n outcome
       → (i : ℕ) × (entry : Entry) × (slice_get entries i ≡ Some entry) × (entry.outcome ≡ outcome)
 
--- The report of the choices with these numbers: their entries, marked exactly where a valid execution that has one of
+-- The report of the choices with these numbers: their entries, and a data race exactly where a valid execution that has one of
 -- these choices has a data race.
 pub record IsReport (t : Litmus) (numbers : ℕ → Bool) (report : Report) : Type 0 where
   pub listed : AreEntries t numbers report.entries
-  pub marked : IsTrue report.race ↔ HasRaceIn t numbers
+  pub raced : IsTrue report.race ↔ HasRaceIn t numbers

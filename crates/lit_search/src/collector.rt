@@ -6,10 +6,10 @@ ghost use Rattle.lit_search.specs.Collected.{Collected, HasTaken, coded_collecte
 ghost use Rattle.lit_search.specs.Report.{in_either, in_none, in_range};
 ghost use Rattle.lit_search.specs.Internal.Risen.{risen};
 
+use crate::fault::SearchFault;
 use crate::found::Found;
 use crate::found::examples::Examples;
 use crate::searching::record;
-use lit_interleave::SearchFault;
 use lit_paths::Plan;
 use lit_solve::Heartbeat;
 use std::alloc::Global;

@@ -1,4 +1,4 @@
-//! The report of a search: outcomes, each with its example, and the mark of data races.
+//! The report of a search: outcomes, each with its example, and whether there is a data race.
 
 pub(crate) mod examples;
 pub(crate) mod merging;
@@ -55,7 +55,7 @@ impl Model for Found {
 }
 
 impl Found {
-    /// These outcomes, ranked, with their examples, and the mark of data races.
+    /// These outcomes, ranked, with their examples, and whether there is a data race.
     pub(crate) fn new(alloc: Global, examples: Examples, race: bool) -> Result<Self, AllocError>
         ensures entries { IfOk result (λ found. found.entries ≡ risen examples) }
         ensures race { IfOk result (λ found. found.race ≡ race) }

@@ -6,14 +6,17 @@
 #![tactic(auto)]
 
 mod collector;
+mod fault;
 mod found;
+mod interleaving;
 pub mod laws;
 mod searching;
 
 pub use collector::Collector;
+pub use fault::SearchFault;
 pub use found::merging::merge;
 pub use found::{Example, Found, Outcome};
-pub use lit_interleave::{SearchFault, interleave};
+pub use interleaving::interleave;
 pub use lit_solve::{Heartbeat, NoHeartbeat};
 pub use lit_valid::Class;
 pub use searching::{first_in, search_range, search_range_with};

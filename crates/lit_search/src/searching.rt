@@ -10,9 +10,9 @@ ghost use Rattle.lit_search.specs.Internal.Boxed.{AreOfRange};
 ghost use Rattle.lit_search.specs.Internal.Gained.{Gains, GoesOn};
 
 use crate::collector::Collector;
+use crate::fault::SearchFault;
 use crate::found::Found;
 use crate::found::examples::Examples;
-use lit_interleave::SearchFault;
 use lit_paths::{BYTE_READ_LIMIT, Plan};
 use lit_rel::EventSet;
 use lit_solve::{
@@ -79,13 +79,13 @@ pub fn first_in(plan: &Plan<'_>, class: Class, from: u64, to: u64) -> Option<u64
 }
 
 /// Records the outcomes of the choices with numbers from `from` up to and without `to`, all of the problem's combination,
-/// that the table lacks. Answers `true` if `mark` is, or if one of these choices has a data race (decision 45).
+/// that the table lacks. Answers `true` if `raced` is, or if one of these choices has a data race (decision 45).
 fn record_on<H: Heartbeat>(
     alloc: Global,
     problem: &Problem<'_>,
     table: &mut Examples,
     heartbeat: &H,
-    mark: bool,
+    raced: bool,
     from: u64,
     to: u64,
 ) -> Result<bool, AllocError>
@@ -94,40 +94,40 @@ fn record_on<H: Heartbeat>(
     requires begins { choices_before problem.now.0 problem.now.1 ≤ from }
     requires ends { to ≤ choices_before problem.now.0 (problem.now.1 + 1) }
     ensures goes_on { GoesOn table.old table.new }
-    ensures gains { IfOk result (Gains problem.now.0 (λ n. IsTrue (in_range from to n)) table.old table.new mark) }
+    ensures gains { IfOk result (Gains problem.now.0 (λ n. IsTrue (in_range from to n)) table.old table.new raced) }
 {
     // For the prover: the executions of the test have choices, and these have numbers.
     laws_below();
     let boxes = boxes_of(problem, from, to);
     let mut domains = [EventSet::new(); BYTE_READ_LIMIT];
-    let mut race = mark;
+    let mut race = raced;
     for place in 0..boxes.len() {
         boxes.put(place, &mut domains);
-        // Once marked, no further box is searched for a data race.
+        // Once there is one, no further box is searched for a data race.
         race = outcomes_and_race(alloc, problem, &domains, table, heartbeat, race)?;
     }
     Ok(race)
 }
 
 /// Records the outcomes of the choices with numbers from `from` up to and without `to` that the table lacks. Answers `true` if
-/// `mark` is, or if one of these choices has a data race.
+/// `raced` is, or if one of these choices has a data race.
 pub(crate) fn record<H: Heartbeat>(
     alloc: Global,
     plan: &Plan<'_>,
     table: &mut Examples,
     heartbeat: &H,
-    mark: bool,
+    raced: bool,
     from: u64,
     to: u64,
 ) -> Result<bool, AllocError>
     requires order { from ≤ to }
     requires known { to ≤ length (choices_of plan.now) }
     ensures goes_on { GoesOn table.old table.new }
-    ensures gains { IfOk result (Gains plan.now (λ n. IsTrue (in_range from to n)) table.old table.new mark) }
+    ensures gains { IfOk result (Gains plan.now (λ n. IsTrue (in_range from to n)) table.old table.new raced) }
 {
     // For the prover: the plan's test is one that a text can say.
     let _test = plan.test();
-    let mut race = mark;
+    let mut race = raced;
     let mut next = from;
     while next < to {
         let problem = Problem::open(&*plan, plan.combination(next));

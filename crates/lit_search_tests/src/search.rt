@@ -3,7 +3,7 @@
 use lit_paths::{Plan, plan};
 use lit_read::read;
 use lit_search::{Class, Collector, Found, NoHeartbeat, first_in, merge, search_range};
-use lit_texts::{
+use lit_test_texts::{
     BOTH_EXCHANGE_FOR_ONE, EQUAL_STORES, LOAD_BUFFERING, LOAD_BUFFERING_ATOMIC, STORE_BUFFERING,
     TYPED_READ,
 };

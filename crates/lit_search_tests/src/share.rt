@@ -5,7 +5,7 @@ use lit_paths::{Plan, plan};
 use lit_read::read;
 use lit_search::Found;
 use lit_share::{OpenGate, Quick, hunt, quick, search, work};
-use lit_texts::{EQUAL_STORES, INDEPENDENT_READS, LOAD_BUFFERING, STORE_BUFFERING};
+use lit_test_texts::{EQUAL_STORES, INDEPENDENT_READS, LOAD_BUFFERING, STORE_BUFFERING};
 use std::alloc::AllocGlobal;
 use std::process::Abort;
 use std::test::Fail;

@@ -1,7 +1,7 @@
 -- Greedy descent: the solutions that it leaves behind are not the least.
 use Rattle.lit_solve.proofs.Words.{◌+◌, ◌<◌, AreAloneBelow, AreSourcesIn, arith, Box, box_events, byte_reads, cases_eq, cases_lt, EventSet}
 use Rattle.lit_solve.proofs.Words.{Execution, get_or, get_or_from_slice_get, Goal, HasAlone, HasEmptyDomain, HasEvent, HasSource, inl, inr}
-use Rattle.lit_solve.proofs.Words.{IsCompletion, IsCut, IsLowest, IsLowestAt, IsNotLeastAt, IsSolution, IsSplit, IsWithin, length, Less}
+use Rattle.lit_solve.proofs.Words.{IsCompletion, IsRestricted, IsLowest, IsLowestAt, IsNotLeastAt, IsSolution, IsSplit, IsWithin, length, Less}
 use Rattle.lit_solve.proofs.Words.{List, nat_cmp, slice_cmp, slice_get, slice_get-get_or, Some, subst, sym, ℕ, ◌↔◌, ◌∙◌, ◌≡◌, ◌≢◌, ◌≤◌}
 use Rattle.lit_solve.proofs.Words.{◌⊎◌}
 use Rattle.lit_solve.proofs.BoxLemmas.{has_source}
@@ -10,17 +10,17 @@ use Rattle.lit_solve.proofs.FrameLemmas.{below_or_last}
 use Rattle.lit_solve.proofs.LexLemmas.{less_from_place}
 use Rattle.lit_solve.proofs.SearchingLemmas.{takes_some}
 
--- a box cut to one source has it alone
-pub cut_alone : (old new : Box) (k source : ℕ) (set : EventSet) → ((w : ℕ) → HasEvent set w → w ≡ source) → IsCut old k set new → k < length (byte_reads (box_events new)) → ¬ HasEmptyDomain new → HasAlone new k source
-cut_alone old new k source set one cut inside some = record { there = there (has_source new k source); alone = λ v h. one v (cut.inside v h) }
+-- a box restricted to one source has it alone
+pub restricted_alone : (old new : Box) (k source : ℕ) (set : EventSet) → ((w : ℕ) → HasEvent set w → w ≡ source) → IsRestricted old k set new → k < length (byte_reads (box_events new)) → ¬ HasEmptyDomain new → HasAlone new k source
+restricted_alone old new k source set one restricted inside some = record { there = there (has_source new k source); alone = λ v h. one v (restricted.inside v h) }
   where
     there : HasSource new k source ⊎ ¬ HasSource new k source → HasSource new k source
     there (inl h) = h
-    there (inr absent) = absurd (some (k, inside, λ w h. absent (subst (λ (v : ℕ). HasSource new k v) (one w (cut.inside w h)) h)))
+    there (inr absent) = absurd (some (k, inside, λ w h. absent (subst (λ (v : ℕ). HasSource new k v) (one w (restricted.inside w h)) h)))
 
 -- the least source in `left`, where no solution takes a source that is not in `left`
 module _ (old new : Box) (goal : Goal) (k : ℕ) (inside : k < length (byte_reads (box_events old))) (left others set : EventSet) (source : ℕ) (split : IsSplit left source others)
-    (taken : (x : Execution) → IsSolution old goal x → (w : ℕ) → slice_get x.sources k ≡ Some w → HasEvent left w) (one : (w : ℕ) → HasEvent set w ↔ (w ≡ source)) (cut : IsCut old k set new) (alone : HasAlone new k source) where
+    (taken : (x : Execution) → IsSolution old goal x → (w : ℕ) → slice_get x.sources k ≡ Some w → HasEvent left w) (one : (w : ℕ) → HasEvent set w ↔ (w ≡ source)) (restricted : IsRestricted old k set new) (alone : HasAlone new k source) where
   remains_or_not_least : (x : Execution) → IsSolution old goal x → IsCompletion new x ⊎ IsNotLeastAt new k x
   remains_or_not_least x is = by (cases_eq some.0 source)
     where
@@ -28,7 +28,7 @@ module _ (old new : Box) (goal : Goal) (k : ℕ) (inside : k < length (byte_read
       some = takes_some old goal k inside x is
 
       by : (some.0 ≡ source) ⊎ (some.0 ≢ source) → IsCompletion new x ⊎ IsNotLeastAt new k x
-      by (inl same) = inl (cut.retained x is.completes (λ v at. (one v).1 ((let e : Some v ≡ Some some.0 = sym at ∙ some.1 in let f : v ≡ some.0 = cc in f) ∙ same)))
+      by (inl same) = inl (restricted.retained x is.completes (λ v at. (one v).1 ((let e : Some v ≡ Some some.0 = sym at ∙ some.1 in let f : v ≡ some.0 = cc in f) ∙ same)))
       by (inr other) = inr record { source = source; taken = some.0; alone = alone; takes = some.1; greater = greater (cases_lt source some.0) }
         where
           greater : (source < some.0) ⊎ (some.0 ≤ source) → source < some.0
@@ -36,7 +36,7 @@ module _ (old new : Box) (goal : Goal) (k : ℕ) (inside : k < length (byte_read
           greater (inr most) = absurd (split.least some.0 (omega (arith, most, other)) (taken x is some.0 some.1))
 
   pub lowest_at : IsLowestAt old goal k new
-  lowest_at = record { within = cut.within; not_least = remains_or_not_least }
+  lowest_at = record { within = restricted.within; not_least = remains_or_not_least }
 
 -- ---- the descent
 -- what is alone stays so in a box within, no domain of which is empty

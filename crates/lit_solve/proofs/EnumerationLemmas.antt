@@ -1,7 +1,7 @@
 -- Enumerating the sources of a frame: the outcome of one completion of it, and the parts of a frame within another.
 use Rattle.lit_solve.proofs.Words.{◌<◌, AddsEntries, ap, arith, Box, box_events, box_with, byte_reads, Entry, EventSet}
 use Rattle.lit_solve.proofs.Words.{Execution, execution_outcome, get_or, HasEachOutcome, HasEvent, HasOutcome, HasSource, IsCompletion}
-use Rattle.lit_solve.proofs.Words.{IfSome, IsCut, IsObservation, IsUndecidedAt, IsWithin, length, List, None, Option, refl, same_Some, slice_get, slice_get-get_or, Some, stored_for, subst, sym}
+use Rattle.lit_solve.proofs.Words.{IfSome, IsRestricted, IsObservation, IsUndecidedAt, IsWithin, length, List, None, Option, refl, same_Some, slice_get, slice_get-get_or, Some, stored_for, subst, sym}
 use Rattle.lit_solve.proofs.Words.{TakesFrom, ℕ, ◌↔◌, ◌∙◌, ◌≡◌}
 use Rattle.lit_solve.proofs.CompletionLemmas.{sourced}
 use Rattle.lit_solve.proofs.EntryLemmas.{adds_more, adds_stays}
@@ -37,13 +37,13 @@ within_on inner middle outer one two = record {
 -- one part more is gone through, with entries of the other box
 pub seen_next : (root box : Box) (k : ℕ) → k < length (byte_reads (box_events box)) → (old mid new : List Entry) (left part rest : EventSet)
     → ((w : ℕ) → HasEvent rest w ↔ (HasEvent left w × ¬ HasEvent part w)) → (domains : List EventSet)
-    → IsCut box k part (box_with (box.test, box.combination) domains) → AddsEntries root old mid → IsSeen box k mid left
+    → IsRestricted box k part (box_with (box.test, box.combination) domains) → AddsEntries root old mid → IsSeen box k mid left
     → AddsEntries root mid new → HasEachOutcome (box_with (box.test, box.combination) domains) new
     → AddsEntries root old new × IsSeen box k new rest
-seen_next root box k inside old mid new left part rest rest_is domains cut added seen adds whole = (
+seen_next root box k inside old mid new left part rest rest_is domains restricted added seen adds whole = (
   adds_more root old mid new added adds,
   seen_more (λ x. HasOutcome new (execution_outcome box.test x)) box k inside left part rest rest_is
-      (λ x is takes. whole x (cut.retained x is takes)) (seen_stays box k mid new left (λ outcome. adds_stays root mid new outcome adds) seen),
+      (λ x is takes. whole x (restricted.retained x is takes)) (seen_stays box k mid new left (λ outcome. adds_stays root mid new outcome adds) seen),
 )
 
 -- ---- what is observed of a frame

@@ -3,7 +3,7 @@
 use Rattle.lit_solve.proofs.Words.{◌<◌, AddsEntries, Any, ap, AreEventsIn, AreFirstValues, arith, Box, box_events, box_with, Branch}
 use Rattle.lit_solve.proofs.Words.{byte_read_at, byte_reads, cases_eq, Entry, eq-eqb, Event, event_or_not, EventSet, Execution}
 use Rattle.lit_solve.proofs.Words.{execution_outcome, false≢true, HasEachOutcome, HasEvent, HasOutcome, HasSource, inl, inr, IsBox}
-use Rattle.lit_solve.proofs.Words.{IsCompletion, IsCut, IsLeastEntry, IsObservedAt, IsUndecidedAt, IsWithin, Laws, length, List, names_of}
+use Rattle.lit_solve.proofs.Words.{IsCompletion, IsRestricted, IsLeastEntry, IsObservedAt, IsUndecidedAt, IsWithin, Laws, length, List, names_of}
 use Rattle.lit_solve.proofs.Words.{observed_value, Prunes, refl, same_Some, slice_get, Some, stored_for, subst, sym, TakesFrom, true}
 use Rattle.lit_solve.proofs.Words.{value_in, value_of, zip, ℕ, ◌↔◌, ◌∙◌, ◌≡◌, ◌⊎◌}
 use Rattle.lit_solve.proofs.CompletionLemmas.{part_of}
@@ -95,12 +95,12 @@ module _ (laws : Laws) (box : Box) (entered : IsBox box) (sound : AreEventsIn bo
         → (v : ℕ) → slice_get y.sources k ≡ Some v → HasEvent group v → TakesFrom x k group
     takes_too x y is_x is_y same v at_y there w at_x = grind (arith, same_byte)
 
-    module _ (domains : List EventSet) (cut : IsCut box k group (box_with (box.test, box.combination) domains)) where
+    module _ (domains : List EventSet) (restricted : IsRestricted box k group (box_with (box.test, box.combination) domains)) where
       abbrev part : Box
       part = box_with (box.test, box.combination) domains
 
       completes_out : (x : Execution) → IsCompletion part x → IsCompletion box x
-      completes_out = completes_within box domains cut.within
+      completes_out = completes_within box domains restricted.within
 
       pub least_out : (entry : Entry) → IsLeastEntry part entry → IsLeastEntry box entry
       least_out entry is = record {
@@ -110,7 +110,7 @@ module _ (laws : Laws) (box : Box) (entered : IsBox box) (sound : AreEventsIn bo
         from = is.from;
         to = is.to;
         chosen = is.chosen;
-        least = λ x completes its. is.least x (cut.retained x completes (takes x completes its)) its;
+        least = λ x completes its. is.least x (restricted.retained x completes (takes x completes its)) its;
         ordered = is.ordered;
       }
         where
@@ -120,7 +120,7 @@ module _ (laws : Laws) (box : Box) (entered : IsBox box) (sound : AreEventsIn bo
               let y_is = completes_out y is.completes in
               let some = takes_one box k inside y y_is in
               takes_too x y completes y_is (its ∙ sym is.outcome) some.0 some.1
-              (cut.inside some.0 (is.completes.within k some.0 some.1))
+              (restricted.inside some.0 (is.completes.within k some.0 some.1))
 
 -- ---- going through the parts of a box
 -- of each completion something is known, or it takes a source of the set
@@ -175,18 +175,18 @@ module _ (box : Box) (k : ℕ) where
 module _ (laws : Laws) (box : Box) (entered : IsBox box) (sound : AreEventsIn box.test.bytes (box_events box)) (k : ℕ)
     (inside : k < length (byte_reads (box_events box))) (observed : IsObservedAt box k) (source : ℕ) (group : EventSet)
     (matching : (w : ℕ) → HasEvent group w ↔ (HasSource box k w × (stored_for box k w ≡ stored_for box k source)))
-    (domains : List EventSet) (cut : IsCut box k group (box_with (box.test, box.combination) domains)) where
+    (domains : List EventSet) (restricted : IsRestricted box k group (box_with (box.test, box.combination) domains)) where
   pub part_adds : (mid new : List Entry) → AddsEntries (box_with (box.test, box.combination) domains) mid new → AddsEntries box mid new
   part_adds =
       adds_out (box_with (box.test, box.combination) domains) box
-      (least_out laws box entered sound k inside observed source group matching domains cut)
+      (least_out laws box entered sound k inside observed source group matching domains restricted)
 
   pub seen_part : (old mid new : List Entry) (left rest : EventSet) → ((w : ℕ) → HasEvent rest w ↔ (HasEvent left w × ¬ HasEvent group w))
       → AddsEntries box old mid → IsSeen box k mid left → AddsEntries (box_with (box.test, box.combination) domains) mid new
       → HasEachOutcome (box_with (box.test, box.combination) domains) new → AddsEntries box old new × IsSeen box k new rest
   seen_part old mid new left rest rest_is added seen adds whole = (
     adds_more box old mid new added (part_adds mid new adds),
-    seen_more (λ x. HasOutcome new (execution_outcome box.test x)) box k inside left group rest rest_is (λ x is takes. whole x (cut.retained x is takes))
+    seen_more (λ x. HasOutcome new (execution_outcome box.test x)) box k inside left group rest rest_is (λ x is takes. whole x (restricted.retained x is takes))
         (seen_stays box k mid new left (λ outcome. adds_stays box mid new outcome (part_adds mid new adds)) seen),
   )
 

@@ -1,8 +1,8 @@
--- Frames before any propagation, and boxes with a cut domain.
+-- Frames before any propagation, and boxes with a restricted domain.
 use Rattle.lit_solve.proofs.Words.{[], ◌+◌, ◌<◌, arith, Box, box_events, byte_read_at, byte_reads, cases_eq, Chain-append, common_steps}
 use Rattle.lit_solve.proofs.Words.{EventSet, Execution, Frame, get_or_from_slice_get, Given, GivenIn, Grows-from, HappensBefore}
 use Rattle.lit_solve.proofs.Words.{HappensBeforeIn, HasAlone, HasEffect, HasEmptyDomain, HasEvent, HasSource, Holds, inl, inr, IsBox}
-use Rattle.lit_solve.proofs.Words.{IsCandidate, IsCoherentRead, IsCompletion, IsContained, IsCut, IsExact, IsForbiddenIn, IsForced-grow}
+use Rattle.lit_solve.proofs.Words.{IsCandidate, IsCoherentRead, IsCompletion, IsContained, IsRestricted, IsExact, IsForbiddenIn, IsForced-grow}
 use Rattle.lit_solve.proofs.Words.{IsForcedIn, IsFixpoint, IsFixpointBelow, IsTransitive, length, Prunes, ReadsByteFrom, rows_len, slice_get}
 use Rattle.lit_solve.proofs.Words.{Some, subst, TakesFrom, TwoWayRows, ℕ, ◌↔◌, ◌≡◌, ◌⊎◌}
 use Rattle.lit_solve.proofs.DomainLemmas.{completion_at, domain_here, frame_at, pruned_at, pruned_is_box, pruned_within, source_other}
@@ -45,9 +45,9 @@ module _ (box : Box) (place : ℕ) (set left : EventSet) (room : place < length 
   pub completion_taken : (x : Execution) → IsCompletion box x → TakesFrom x place set → IsCompletion (pruned_at box place left) x
   completion_taken x is takes = completion_at box place left room x is (source_taken x is takes)
 
-  -- pruned further it is the cut
-  pub cut_on : (now : Box) → Prunes (pruned_at box place left) now → IsCut box place set now
-  cut_on now on = grind (arith, common_steps, completion_taken, domain_here, left_within, pruned_within)
+  -- pruned further it is the restricted box
+  pub restricted_on : (now : Box) → Prunes (pruned_at box place left) now → IsRestricted box place set now
+  restricted_on now on = grind (arith, common_steps, completion_taken, domain_here, left_within, pruned_within)
 
 -- ---- a restricted domain that gives no source with an effect: a fixpoint stays one
 module _ (box : Box) (frame : Frame) (exact : IsExact box frame) (place : ℕ) (left : EventSet) (room : place < length box.domains)

@@ -4,7 +4,7 @@ use Rattle.lit_solve.proofs.Words.{[], ◌+◌, ◌<◌, ◌∙◌, ◌∷◌, �
 use Rattle.lit_solve.proofs.Words.{box_events, byte_read_at, byte_reads, cases_eq, ChangesListed, choices_before, digits_below, Entry}
 use Rattle.lit_solve.proofs.Words.{Event, Execution, execution_outcome, Filling, get_or, get_or-map, HasEachBeside, HasLeastOrderIn}
 use Rattle.lit_solve.proofs.Words.{HasOutcome, HasSources, inl, inr, IsChosen, IsCompletion, IsFilled, IsIndependent, IsLeastEntry}
-use Rattle.lit_solve.proofs.Words.{IsLeastFilling, IsListed, IsNotGreaterOn, IsNumberBeside, IsOfCombination, IsOpenRead, Laws, length}
+use Rattle.lit_solve.proofs.Words.{IsLeastFilling, IsListed, IsNotGreaterOn, IsNumberWithout, IsOfCombination, IsOpenRead, Laws, length}
 use Rattle.lit_solve.proofs.Words.{Less, List, Litmus, names_of, nat_cmp, None, none-some, NumbersChoices, observed_read, observed_value}
 use Rattle.lit_solve.proofs.Words.{Observes, OpenRead, Option, part_with, refl, same_number_lists, same_Some, share_below, slice_cmp}
 use Rattle.lit_solve.proofs.Words.{slice_get, slice_get_within, Some, subst, sym, value_of, ℕ}
@@ -120,12 +120,12 @@ module _ (laws : Laws) (box : Box) (is : IsIndependent box) (reads : List OpenRe
   pub chosen_least : ((b : Box) → IsFilledReadByRead b) → (sources : List ℕ) (number : ℕ)
       → (x : Execution) × IsCompletion box x × (x.sources ≡ sources)
       → ((y : Execution) → IsCompletion box y → slice_cmp nat_cmp y.sources sources ≢ Less)
-      → IsNumberBeside (box.test, box.combination) reads sources number → IsChosen box reads values number
+      → IsNumberWithout (box.test, box.combination) reads sources number → IsChosen box reads values number
   chosen_least law sources number some least numbered = record {
     execution = some.0;
     completes = some.1;
     beside = changes_beside some.0 some.1;
-    numbered = subst (λ (s : List ℕ). IsNumberBeside (box.test, box.combination) reads s number) (sym some.2) numbered;
+    numbered = subst (λ (s : List ℕ). IsNumberWithout (box.test, box.combination) reads s number) (sym some.2) numbered;
     least = λ r absent y completes same.
         least_not_greater laws box is law r some.0 some.1
         (λ z is_z. subst (λ (s : List ℕ). slice_cmp nat_cmp z.sources s ≢ Less) (sym some.2) (least z is_z))
@@ -249,7 +249,7 @@ module _ {box : Box} {it : OpenRead} {rest : List OpenRead} {value : ℕ} {old m
       ];
     }
 
-    numbered_z : IsNumberBeside c rest z.0.sources (number + share)
+    numbered_z : IsNumberWithout c rest z.0.sources (number + share)
     numbered_z others agree =
         let all = length (byte_reads events) in
         let sum = chosen.numbered others (λ k r b at absent.

@@ -2,7 +2,7 @@
 use Rattle.lit_solve.proofs.Words.{[], ◌++◌, ◌<◌, ◌↔◌, ◌∙◌, ◌∷◌, ◌≡◌, ◌≢◌, AddsFillings, All-permutation, ap, append_assoc, AreEventsIn}
 use Rattle.lit_solve.proofs.Words.{AreFillings, AreSourcesIn, arith, Box, box_events, box_with, byte_read_at, byte_reads, cases_eq}
 use Rattle.lit_solve.proofs.Words.{cases_lt, Contains-permutation, Event, EventSet, Execution, Filling, FillsRead, get_or}
-use Rattle.lit_solve.proofs.Words.{get_or_from_slice_get, HasEvent, HasSource, HasValue, HaveEachValue, inl, inr, IsCompletion, IsCut}
+use Rattle.lit_solve.proofs.Words.{get_or_from_slice_get, HasEvent, HasSource, HasValue, HaveEachValue, inl, inr, IsCompletion, IsRestricted}
 use Rattle.lit_solve.proofs.Words.{IsFilled, IsFilling, IsIndependent, IsLeastFilling, IsNotGreaterOn, IsPermutation, Laws, length, Less}
 use Rattle.lit_solve.proofs.Words.{List, nat_cmp, place-left, place-middle, slice_cmp, slice_get, slice_get-get_or, slice_get_within, Some}
 use Rattle.lit_solve.proofs.Words.{stored_for, subst, suc, sym, TakesFrom, value_of, zero, ℕ}
@@ -164,7 +164,7 @@ value_sorted old new value moved has =
 module _ (laws : Laws) (box : Box) (is : IsIndependent box) (law : (b : Box) → IsFilledReadByRead b) (sound : AreEventsIn box.test.bytes (box_events box)) (r k : ℕ)
     (inside : k < length (byte_reads (box_events box))) (its : (byte_read_at (box_events box) k).0 ≡ r) (source : ℕ) (group : EventSet)
     (matching : (w : ℕ) → HasEvent group w ↔ (HasSource box k w × (stored_for box k w ≡ stored_for box k source)))
-    (domains : List EventSet) (cut : IsCut box k group (box_with (box.test, box.combination) domains)) where
+    (domains : List EventSet) (restricted : IsRestricted box k group (box_with (box.test, box.combination) domains)) where
   abbrev part : Box
   part = box_with (box.test, box.combination) domains
 
@@ -184,7 +184,7 @@ module _ (laws : Laws) (box : Box) (is : IsIndependent box) (law : (b : Box) →
         y = moved_to laws part part_is law r part_is.filled.sources part_is.filled.lie part_is.filled.each sources fills
 
         y_out : IsCompletion box y.0
-        y_out = completes_within box domains cut.within y.0 y.1
+        y_out = completes_within box domains restricted.within y.0 y.1
 
         same_value : value_of (box_events box) x.0.sources r ≡ value_of (box_events box) y.0.sources r
         same_value =
@@ -196,18 +196,18 @@ module _ (laws : Laws) (box : Box) (is : IsIndependent box) (law : (b : Box) →
             let stored = same_stored laws box is.is_box sound k inside x.0 y.0 x.1 y_out
             (subst (λ (q : ℕ). value_of (box_events box) x.0.sources q ≡ value_of (box_events box) y.0.sources q) (sym its) same_value)
             w some.0 at some.1 in
-            let there = (matching some.0).0 (cut.inside some.0 (y.1.within k some.0 some.1)) in
+            let there = (matching some.0).0 (restricted.inside some.0 (y.1.within k some.0 some.1)) in
             (matching w).1 (x.1.within k w at, stored ∙ there.1)
 
         within : (j b w : ℕ) → slice_get (byte_reads (box_events box)) j ≡ Some (r, b) → slice_get others j ≡ Some w → HasSource part j w
-        within j b w at there = (cut.retained x.0 x.1 takes).within j w (x.2 j b at ∙ there)
+        within j b w at there = (restricted.retained x.0 x.1 takes).within j w (x.2 j b at ∙ there)
 
     filling_out : (value : ℕ) (sources : List ℕ) → IsLeastFilling part r value sources → IsLeastFilling box r value sources
     filling_out value sources filling = record {
       fills = record {
         lie = record {
           sourced = filling.fills.lie.sourced;
-          within = λ j b w at there. cut.within.domains j w (filling.fills.lie.within j b w at there);
+          within = λ j b w at there. restricted.within.domains j w (filling.fills.lie.within j b w at there);
         };
         filled = record { tear_free = filling.fills.filled.tear_free; guards = filling.fills.filled.guards };
       };
@@ -233,7 +233,7 @@ module _ (laws : Laws) (box : Box) (is : IsIndependent box) (law : (b : Box) →
     values_more old mid new left rest rest_is added seen adds whole = (
       adds_more_fillings box r old mid new added (fillings_out mid new adds),
       seen_more (λ x. HasValue new (value_of (box_events box) x.sources r)) box k inside left group rest rest_is
-          (λ x completes takes. whole x (cut.retained x completes takes))
+          (λ x completes takes. whole x (restricted.retained x completes takes))
           (λ x completes. elim (seen x completes) [
             | inl has ↦ inl (value_goes_on box r mid new (value_of (box_events box) x.sources r) (fillings_out mid new adds) has)
             | inr takes ↦ inr takes

@@ -1,6 +1,6 @@
 -- Solutions of a box and of its branches.
 use Rattle.lit_solve.proofs.Words.{◌<◌, arith, Box, box_events, Branch, byte_reads, event_or_not, EventSet, Execution, get_or, Goal}
-use Rattle.lit_solve.proofs.Words.{GoesWith, HasEvent, HasSource, IsBranch, IsCut, IsSolution, IsSplit, IsWithin, length, same_Some}
+use Rattle.lit_solve.proofs.Words.{GoesWith, HasEvent, HasSource, IsBranch, IsRestricted, IsSolution, IsSplit, IsWithin, length, same_Some}
 use Rattle.lit_solve.proofs.Words.{slice_get, slice_get-get_or, Some, split_less_yet, subst, sym, TakesFrom, ℕ, ◌↔◌, ◌≡◌}
 use Rattle.lit_solve.proofs.CompletionLemmas.{sourced}
 use Rattle.lit_solve.proofs.PruningLemmas.{read_here}
@@ -9,10 +9,10 @@ use Rattle.lit_solve.proofs.PruningLemmas.{read_here}
 pub solution_out : (inner outer : Box) (goal : Goal) → IsWithin inner outer → (x : Execution) → IsSolution inner goal x → IsSolution outer goal x
 solution_out inner outer goal within x is = grind arith
 
--- a solution that takes a source of the set is one of the cut
-pub solution_in : (old new : Box) (goal : Goal) (k : ℕ) (set : EventSet) → IsCut old k set new → (x : Execution) → IsSolution old goal x
+-- a solution that takes a source of the set is one of the restricted box
+pub solution_in : (old new : Box) (goal : Goal) (k : ℕ) (set : EventSet) → IsRestricted old k set new → (x : Execution) → IsSolution old goal x
     → TakesFrom x k set → IsSolution new goal x
-solution_in old new goal k set cut x is takes = grind arith
+solution_in old new goal k set restricted x is takes = grind arith
 
 -- the part of one source doesn't have all sources
 module _ (box : Box) (branch : Branch) (is : IsBranch box branch) (source : ℕ) (there : HasSource box branch.place source) (part : EventSet) where

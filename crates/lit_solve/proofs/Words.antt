@@ -66,11 +66,11 @@ pub use Rattle.lit_solve.specs.Internal.Leaves.{CanFillAt, IsOrderOfBox, MayHave
 pub use Rattle.lit_solve.specs.Internal.Observation.{AreFirstValues, IsObservation, IsObservedAt, IsValueObserved, part_with}
 pub use Rattle.lit_solve.specs.Internal.Numbering.{digit, digits_below, place_in, share_below}
 pub use Rattle.lit_solve.specs.Internal.Product.{AgreeBeside, AreDistinct, AreOpenReads, AreValuesBeside, ChangesListed, HasEachBeside}
-pub use Rattle.lit_solve.specs.Internal.Product.{IsChosen, IsListed, IsNumberBeside, IsOpenRead, IsValueBeside, Observes, shares_below}
+pub use Rattle.lit_solve.specs.Internal.Product.{IsChosen, IsListed, IsNumberWithout, IsOpenRead, IsValueBeside, Observes, shares_below}
 pub use Rattle.lit_solve.specs.Internal.Pruning.{HasNoCompletion, Prunes, size_of}
 pub use Rattle.lit_solve.specs.Internal.ReadValues.{AddsFillings, AreFillings, HasValue, HaveEachValue, IsFilling}
 pub use Rattle.lit_solve.specs.Internal.Searching.{GoesWith, IsBranch}
-pub use Rattle.lit_solve.specs.Internal.Fixpoint.{IsCut, IsFixpoint, IsFixpointBelow, TakesFrom}
+pub use Rattle.lit_solve.specs.Internal.Fixpoint.{IsRestricted, IsFixpoint, IsFixpointBelow, TakesFrom}
 pub use Rattle.lit_solve.specs.Internal.SoundRange.{IsSoundRange}
 pub use Rattle.lit_solve.specs.Outcomes.{AddsEntries, AreNewEntries, HasEachOutcome, IsLeastEntry}
 pub use Rattle.lit_solve.specs.Prospect.{IsAskedAt, IsOutcomeProspect, IsUndecidedAt, IsValueOf, outcome_by}

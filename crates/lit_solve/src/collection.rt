@@ -183,7 +183,7 @@ impl Problem<'_> {
             let group = self.storing_same(all, place, source);
             let mut next = *frame;
             // To refute an outcome takes long, and the next ones are mostly infeasible too: one search for any completion costs less.
-            if self.cut(&mut next, place, group) && self.may_complete(&next, dead_end) {
+            if self.restrict(&mut next, place, group) && self.may_complete(&next, dead_end) {
                 let end = self.outcomes_by_values(
                     alloc, &next, &values, dead_end, gives_up, table, heartbeat,
                 )?;

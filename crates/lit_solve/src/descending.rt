@@ -46,7 +46,7 @@ impl Problem<'_> {
         let before = *frame;
         let mut left = self.sources_left(&before, place);
         while let Some((source, others)) = left.split_first() {
-            if self.cut(frame, place, set_of(source))
+            if self.restrict(frame, place, set_of(source))
                 && self.is_promising(&*frame, goal, complete)
             {
                 return true;

@@ -120,7 +120,7 @@ impl Problem<'_> {
         let all = self.sources_left(frame, place);
         let group = self.storing_same(all, place, usize::from(sources[place]));
         let mut next = *frame;
-        if self.cut(&mut next, place, group) {
+        if self.restrict(&mut next, place, group) {
             return self.record_alike(&next, sources, &values, table);
         }
         Ok(())
@@ -180,7 +180,7 @@ impl Problem<'_> {
         while let Some((source, _others)) = left.split_first() {
             let part = self.part(branch, left, source);
             let mut next = *frame;
-            if self.cut(&mut next, branch.place, part) {
+            if self.restrict(&mut next, branch.place, part) {
                 self.outcomes_by_sources(root, &next, table, heartbeat)?;
             }
             left = left.difference(part);

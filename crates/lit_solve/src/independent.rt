@@ -15,7 +15,7 @@ ghost use Rattle.lit_solve.specs.Given.{HasAlone};
 ghost use Rattle.lit_solve.specs.Internal.Descending.{IsLowestAt};
 ghost use Rattle.lit_solve.specs.Internal.Independent.{HasLeastOrderIn, IsIndependent};
 ghost use Rattle.lit_solve.specs.Internal.Pruning.{size_of};
-ghost use Rattle.lit_solve.specs.Internal.Fixpoint.{IsCut, TakesFrom};
+ghost use Rattle.lit_solve.specs.Internal.Fixpoint.{IsRestricted, TakesFrom};
 
 use crate::domains::{Domains, only_one, set_of};
 use crate::laws::{
@@ -29,13 +29,18 @@ use lit_valid::laws::laws_below;
 impl Problem<'_> {
     /// Restricts the domain of the byte read at a place to a set. Answers `false` if its read can't be filled then: no completion has a
     /// source of the set there.
-    pub(crate) fn cut_independent(&self, domains: &mut Domains, place: usize, set: EventSet) -> bool
+    pub(crate) fn restrict_independent(
+        &self,
+        domains: &mut Domains,
+        place: usize,
+        set: EventSet,
+    ) -> bool
         requires place { place < length (byte_reads (events_on self.now)) }
         requires independent { IsIndependent (box_with self.now domains.old) }
         ensures independent { IsTrue result → IsIndependent (box_with self.now domains.new) }
         ensures order { IsTrue result → (order : List ℕ) → HasLeastOrderIn (box_with self.now domains.old) order
             → HasLeastOrderIn (box_with self.now domains.new) order }
-        ensures cut { IsTrue result → IsCut (box_with self.now domains.old) place set (box_with self.now domains.new) }
+        ensures restricted { IsTrue result → IsRestricted (box_with self.now domains.old) place set (box_with self.now domains.new) }
         ensures less { IsTrue result → ¬ ((w : ℕ) → HasSource (box_with self.now domains.old) place w → HasEvent set w)
             → size_of domains.new < size_of domains.old }
         ensures none { IsFalse result → (x : Execution) → IsCompletion (box_with self.now domains.old) x → ¬ TakesFrom x place set }
@@ -74,7 +79,7 @@ impl Problem<'_> {
         let mut left = domains[place];
         while let Some((source, others)) = left.split_first() {
             let mut next = *domains;
-            if self.cut_independent(&mut next, place, set_of(source)) {
+            if self.restrict_independent(&mut next, place, set_of(source)) {
                 *domains = next;
                 return;
             }

@@ -8,7 +8,7 @@ ghost use Rattle.lit_paths.specs.Numbers.{NumbersChoices};
 ghost use Rattle.lit_paths.specs.Plan.{HasSources, IsOfCombination, choices_before, events_in};
 ghost use Rattle.lit_solve.specs.Internal.Numbering.{digit, digits_below, place_in, share_below};
 ghost use Rattle.lit_solve.specs.Box.{events_on};
-ghost use Rattle.lit_solve.specs.Internal.Product.{AreDistinct, IsNumberBeside};
+ghost use Rattle.lit_solve.specs.Internal.Product.{AreDistinct, IsNumberWithout};
 
 use crate::problem::Problem;
 use crate::product::{OpenRead, is_listed};
@@ -75,7 +75,7 @@ pub fn number_of(combination: &Combination<'_>, sources: &[u8]) -> u64
 
 impl Problem<'_> {
     /// The digits of a read, added up.
-    pub(crate) fn share_of(&self, sources: &[u8], read: u8) -> u64
+    pub(crate) fn digits_of(&self, sources: &[u8], read: u8) -> u64
         requires { AreSources (events_on self.now) sources.now }
         ensures { result ≡ share_below (events_on self.now) read sources.now (length (byte_reads (events_on self.now))) }
     {
@@ -89,10 +89,10 @@ impl Problem<'_> {
     }
 
     /// The number of the choice with these sources, less the digits of the listed reads, no two of which are the same.
-    pub(crate) fn number_beside(&self, sources: &[u8], reads: &[OpenRead]) -> u64
+    pub(crate) fn number_without(&self, sources: &[u8], reads: &[OpenRead]) -> u64
         requires sources { AreSources (events_on self.now) sources.now }
         requires distinct { AreDistinct reads.now }
-        ensures { IsNumberBeside self.now reads.now sources.now result }
+        ensures { IsNumberWithout self.now reads.now sources.now result }
     {
         let mut number = first_of(&self.combination);
         for place in 0..self.reads() {

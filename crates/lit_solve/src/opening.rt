@@ -8,7 +8,7 @@ ghost use Rattle.lit_solve.specs.Box.{HasEmptyDomain, HasSource, IsBox, box_with
 ghost use Rattle.lit_solve.specs.Completion.{IsCompletion};
 ghost use Rattle.lit_solve.specs.Internal.Frames.{IsContained, box_of};
 ghost use Rattle.lit_solve.specs.Internal.Pruning.{HasNoCompletion, Prunes, size_of};
-ghost use Rattle.lit_solve.specs.Internal.Fixpoint.{IsCut, IsFixpoint, TakesFrom};
+ghost use Rattle.lit_solve.specs.Internal.Fixpoint.{IsRestricted, IsFixpoint, TakesFrom};
 
 use crate::domains::Domains;
 use crate::frame::Frame;
@@ -94,11 +94,11 @@ impl Problem<'_> {
 
     /// Restricts the domain of the byte read at a place to a set, and propagates. Answers `false` if that shows that no completion has a
     /// source of the set there. Checks only this read for filling (decision 35).
-    pub(crate) fn cut(&self, frame: &mut Frame, place: usize, set: EventSet) -> bool
+    pub(crate) fn restrict(&self, frame: &mut Frame, place: usize, set: EventSet) -> bool
         requires place { place < length (byte_reads (events_on self.now)) }
         requires fixpoint { IsFixpoint (box_of self.now frame.old) frame.old }
         ensures fixpoint { IsTrue result → IsFixpoint (box_of self.now frame.new) frame.new }
-        ensures cut { IsTrue result → IsCut (box_of self.now frame.old) place set (box_of self.now frame.new) }
+        ensures restricted { IsTrue result → IsRestricted (box_of self.now frame.old) place set (box_of self.now frame.new) }
         ensures less { IsTrue result → ¬ ((w : ℕ) → HasSource (box_of self.now frame.old) place w → HasEvent set w)
             → size_of frame.new.domains < size_of frame.old.domains }
         ensures none { IsFalse result → (x : Execution) → IsCompletion (box_of self.now frame.old) x → ¬ TakesFrom x place set }

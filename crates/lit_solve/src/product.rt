@@ -231,7 +231,7 @@ impl Problem<'_> {
         let reads = reads.as_slice();
         let least = self.least_filling(domains);
         // The reads that no outcome tells apart add to the number once, not for each outcome.
-        let number = self.number_beside(least.as_slice(), reads);
+        let number = self.number_without(least.as_slice(), reads);
         self.product(domains, reads, &mut values, number, order, table, heartbeat)
     }
 }

@@ -38,7 +38,7 @@ impl Problem<'_> {
         let place = match self.read_value(domains, read) {
             ReadValue::One(value) => {
                 let sources = self.least_filling(domains);
-                let share = self.share_of(sources.as_slice(), read);
+                let share = self.digits_of(sources.as_slice(), read);
                 fillings.push(Filling { value, share })?;
                 return Ok(());
             }
@@ -52,7 +52,7 @@ impl Problem<'_> {
         while let Some((source, _others)) = left.split_first() {
             let group = self.storing_same(all, place, source);
             let mut part = *domains;
-            if self.cut_independent(&mut part, place, group) {
+            if self.restrict_independent(&mut part, place, group) {
                 self.add_fillings(&part, read, fillings)?;
             }
             left = left.difference(group);

@@ -46,7 +46,7 @@ impl Problem<'_> {
         while let Some((source, _others)) = left.split_first() {
             let part = self.part(branch, left, source);
             let mut next = *frame;
-            if self.cut(&mut next, branch.place, part) && self.exists(&next, goal) {
+            if self.restrict(&mut next, branch.place, part) && self.exists(&next, goal) {
                 return true;
             }
             left = left.difference(part);

@@ -38,7 +38,7 @@ pub fn least(problem: &Problem<'_>, domains: &Domains, goal: Goal) -> Option<Lea
 }
 
 /// Records the outcomes of a box's completions that the table lacks. Each comes with the choice of the least sources of a completion that
-/// has it, and with their least memory-order. Then answers `true` if `mark` is, or if a completion has a data race. Answers `AllocError`
+/// has it, and with their least memory-order. Then answers `true` if `raced` is, or if a completion has a data race. Answers `AllocError`
 /// if the table refuses to record an outcome or if the memory for the values of reads, taken from `alloc`, is refused; some outcomes may
 /// be missing then. Calls the heartbeat at each step down.
 pub fn outcomes_and_race<T: OutcomeTable, H: Heartbeat>(
@@ -47,18 +47,18 @@ pub fn outcomes_and_race<T: OutcomeTable, H: Heartbeat>(
     domains: &Domains,
     table: &mut T,
     heartbeat: &H,
-    mark: bool,
+    raced: bool,
 ) -> Result<bool, AllocError>
     requires { IsBox (box_with problem.now domains.now) }
     ensures added { AddsEntries (box_with problem.now domains.now) (T.entries table.old) (T.entries table.new) }
     ensures whole { OnOk result (HasEachOutcome (box_with problem.now domains.now) (T.entries table.new)) }
-    ensures race { IfOk result (λ race. IsTrue race ↔ (IsTrue mark ⊎ HasSolution (box_with problem.now domains.now) Race)) }
+    ensures race { IfOk result (λ race. IsTrue race ↔ (IsTrue raced ⊎ HasSolution (box_with problem.now domains.now) Race)) }
 {
     let Some(frame) = problem.fixpoint(domains) else {
-        return Ok(mark);
+        return Ok(raced);
     };
     problem.outcomes(alloc, &frame, table, heartbeat)?;
-    Ok(mark || problem.exists(&frame, Goal::Race))
+    Ok(raced || problem.exists(&frame, Goal::Race))
 }
 
 /// This is `outcomes_and_race` without a search for a data race.
@@ -73,7 +73,7 @@ pub fn outcomes<T: OutcomeTable, H: Heartbeat>(
     ensures added { AddsEntries (box_with problem.now domains.now) (T.entries table.old) (T.entries table.new) }
     ensures whole { OnOk result (HasEachOutcome (box_with problem.now domains.now) (T.entries table.new)) }
 {
-    // Nothing is searched for where the mark is made already.
+    // Nothing is searched for where there is one already.
     outcomes_and_race(alloc, problem, domains, table, heartbeat, true)?;
     Ok(())
 }

@@ -5,7 +5,7 @@ use lit_paths::{BYTE_READ_LIMIT, Plan, plan};
 use lit_read::read;
 use lit_rel::EventSet;
 use lit_solve::{Boxes, Domains, Problem, outcomes};
-use lit_texts::STORE_BUFFERING;
+use lit_test_texts::STORE_BUFFERING;
 use std::alloc::{AllocError, AllocGlobal, Global};
 use std::process::Abort;
 use std::sync::atomic::{AtomicU64, Ordering};

@@ -4,7 +4,7 @@ use lit_paths::{BYTE_READ_LIMIT, Plan, plan};
 use lit_read::read;
 use lit_rel::EventSet;
 use lit_solve::{Boxes, Domains, Goal, Problem, exists, least, number_of};
-use lit_texts::STORE_BUFFERING;
+use lit_test_texts::STORE_BUFFERING;
 use lit_valid::Class;
 use std::alloc::AllocGlobal;
 use std::process::Abort;

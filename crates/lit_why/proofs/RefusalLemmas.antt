@@ -24,10 +24,12 @@ use Rattle.lit_rel.specs.Part.{PartModel, part_events}
 use Rattle.lit_rel.specs.ReadsFrom.{ReadsFrom, composed, value_of}
 use Rattle.lit_rel.specs.TearFree.{HasTearFreeReads}
 use Rattle.lit_valid.specs.PartOutcome.{observed_value}
-use Rattle.lit_why.specs.Internal.Refusing.{AreTorn, IsFirstFalse, IsFirstIncoherent, IsHiddenBy, IsLeastFalse}
+use Rattle.lit_why.specs.Internal.Refusing.{AreTorn, IsFirstFalse, IsFirstIncoherent, IsLeastCause, IsLeastFalse}
 use Rattle.lit_why.specs.declared.refusals.causes.Refusal.{Refusal}
 use Rattle.lit_why.specs.declared.refusals.causes.Refusal.TheVariants.{BeforeItself, FalseGuard, Incoherent, NoOrder, Torn}
-use Rattle.lit_why.specs.Refusal.{IsRefusal, BeforeIn, HasNoCycle, HasNoFalse, IsFalseAt, IsFalseIn, IsIncoherentAt, IsIncoherentBy, IsTornBy}
+use Rattle.lit_why.specs.Refusal.{IsRefusal, BeforeIn, HasNoCycle, HasNoFalse, IsFalseAt, IsFalseIn, IsIncoherentAt, IsRefutingCause, IsTornBy}
+use Rattle.lit_why.specs.declared.refusals.causes.Incoherence.{Incoherence}
+use Rattle.lit_why.specs.declared.refusals.causes.Incoherence.TheVariants.{HiddenBy, ReadFirst}
 
 -- ---- a number that is no event's has no value
 filter_none : (reads : List (ℕ × ℕ)) (sources : List ℕ) (r : ℕ) → ((k : ℕ) (q : ℕ × ℕ) → slice_get reads k ≡ Some q → q.0 ≡ r → ⊥)
@@ -108,13 +110,13 @@ module _ (part : PartModel) (before reads : ℕ → ℕ → Type 0) (same : (e d
   coherent_same : (r b w : ℕ) → IsCoherentRead (part_events part) before r b w → IsCoherentRead (part_events part) (BeforeIn part) r b w
   coherent_same r b w c = record { not_later = λ h. c.not_later ((same r w).1 h); not_hidden = λ v h. c.not_hidden v (hides_back r b w v h) }
 
-  hidden_same : (r b w : ℕ) (hidden_by : Option ℕ) → IsHiddenBy (part_events part) before r b w hidden_by → IsIncoherentBy part r b w hidden_by
-  hidden_same r b w None h = (same r w).0 h
-  hidden_same r b w (Some v) h = ((λ later. h.0 ((same r w).1 later)), hides_same r b w v h.1, λ u less hides. h.2 u less (hides_back r b w u hides))
+  hidden_same : (r b w : ℕ) (cause : Incoherence) → IsLeastCause (part_events part) before r b w cause → IsRefutingCause part r b w cause
+  hidden_same r b w ReadFirst h = (same r w).0 h
+  hidden_same r b w (HiddenBy v) h = ((λ later. h.0 ((same r w).1 later)), hides_same r b w v h.1, λ u less hides. h.2 u less (hides_back r b w u hides))
 
-  hidden_incoherent : (r b w : ℕ) (hidden_by : Option ℕ) → IsIncoherentBy part r b w hidden_by → ¬ IsCoherentRead (part_events part) (BeforeIn part) r b w
-  hidden_incoherent r b w None h c = c.not_later h
-  hidden_incoherent r b w (Some v) h c = c.not_hidden v h.1
+  hidden_incoherent : (r b w : ℕ) (cause : Incoherence) → IsRefutingCause part r b w cause → ¬ IsCoherentRead (part_events part) (BeforeIn part) r b w
+  hidden_incoherent r b w ReadFirst h c = c.not_later h
+  hidden_incoherent r b w (HiddenBy v) h c = c.not_hidden v h.1
 
   module _ (list : List ByteRead) (sources : List ℕ) (is_list : map pair_of list ≡ byte_reads (part_events part)) (is_sources : sources ≡ part.sources) where
     at_byte : (k r b : ℕ) → slice_get (byte_reads (part_events part)) k ≡ Some (r, b) → (x : ByteRead) × (slice_get list k ≡ Some x) × (pair_of x ≡ (r, b))
@@ -127,12 +129,12 @@ module _ (part : PartModel) (before reads : ℕ → ℕ → Type 0) (same : (e d
         let P : ℕ × ℕ → Type 0 = λ p. IsCoherentRead (part_events part) (BeforeIn part) p.0 p.1 w in
         subst P x.2 (coherent_same x.0.read x.0.byte w (each given.0 x.0 w x.1 (rw is_sources given.2)))
 
-    pub first_incoherent_same : (place r b w : ℕ) (hidden_by : Option ℕ) → IsFirstIncoherent (part_events part) before list sources place r b w hidden_by
-        → IsIncoherentAt part r b w × IsIncoherentBy part r b w hidden_by × ((q c u : ℕ) → IsIncoherentAt part q c u → ¬ IsLesserPair q c r b)
-    first_incoherent_same place r b w hidden_by h =
-        let why = hidden_same r b w hidden_by h.hidden in
+    pub first_incoherent_same : (place r b w : ℕ) (cause : Incoherence) → IsFirstIncoherent (part_events part) before list sources place r b w cause
+        → IsIncoherentAt part r b w × IsRefutingCause part r b w cause × ((q c u : ℕ) → IsIncoherentAt part q c u → ¬ IsLesserPair q c r b)
+    first_incoherent_same place r b w cause h =
+        let why = hidden_same r b w cause h.hidden in
         let at = rw (is_list, h.read, h.of_byte) at (slice_get-map-found pair_of list place h.byte h.at_read) in (
-          record { given = (place, at, rw is_sources at h.at_source); incoherent = hidden_incoherent r b w hidden_by why },
+          record { given = (place, at, rw is_sources at h.at_source); incoherent = hidden_incoherent r b w cause why },
           why,
           (λ q c u inc. elim (cases_order inc.given.0 place) [
             | inl same ↦
@@ -223,7 +225,7 @@ module _ (part : PartModel) (are : AreSources (part_events part) part.sources) w
   pub refused : (refusal : Refusal) → IsRefusal part refusal → IsBroken part ⊎ (¬ IsBroken part × ((order : List ℕ) → ¬ IsMemoryOrder (part_events part) part.sources order))
   refused (FalseGuard agent place) h = inl (inr (false_breaks agent place h.0))
   refused (BeforeItself event) h = inl (inl (inl (event, h.1)))
-  refused (Incoherent r b w hidden_by) h =
+  refused (Incoherent r b w cause) h =
       let at = h.2 in inl (inl (inr (inl record { read = r; byte = b; source = w; is_given = at.given; incoherent = at.incoherent })))
   refused (Torn r w v) h =
       let torn = h.3 in

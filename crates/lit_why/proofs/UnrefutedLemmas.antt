@@ -11,6 +11,7 @@ use Rattle.lit_why.specs.Internal.Relations.{IsCoherentAt}
 use Rattle.lit_why.specs.Refutation.{IsRefutation}
 use Rattle.lit_why.specs.declared.refusals.causes.Refusal.{Refusal}
 use Rattle.lit_why.specs.declared.refusals.causes.Refusal.TheVariants.{BeforeItself, FalseGuard, Incoherent, NoOrder, Torn}
+use Rattle.lit_why.specs.declared.refusals.causes.Incoherence.TheVariants.{HiddenBy, ReadFirst}
 
 -- where no two events tear a read, it reads whole from one at the most
 pub one_whole : (box : Box) (reads : ℕ → ℕ → Type 0) → ((r w : ℕ) → reads r w ↔ ReadsFromBy (GivenIn box) r w)
@@ -33,7 +34,7 @@ module _ (box : Box) (strict : (e : ℕ) → ¬ HappensBeforeIn box e e) (cohere
   pub unrefuted : (refusal : Refusal) → ¬ IsRefutation box refusal
   unrefuted (FalseGuard agent place) h = h
   unrefuted (BeforeItself event) h = strict event h
-  unrefuted (Incoherent r b w None) h = (coherent h.0.place r b w h.0.is_read h.0.alone).not_later h.1
-  unrefuted (Incoherent r b w (Some v)) h = (coherent h.0.place r b w h.0.is_read h.0.alone).not_hidden v h.1
+  unrefuted (Incoherent r b w ReadFirst) h = (coherent h.0.place r b w h.0.is_read h.0.alone).not_later h.1
+  unrefuted (Incoherent r b w (HiddenBy v)) h = (coherent h.0.place r b w h.0.is_read h.0.alone).not_hidden v h.1
   unrefuted (Torn r w v) h = h.2 (sym (whole r w v h.0 h.1))
   unrefuted NoOrder h = h order

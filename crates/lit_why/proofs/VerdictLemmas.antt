@@ -38,12 +38,14 @@ use Rattle.lit_why.specs.declared.refusals.causes.Refusal.{Refusal}
 use Rattle.lit_why.specs.declared.refusals.causes.Refusal.TheVariants.{BeforeItself, FalseGuard, Incoherent, NoOrder, Torn}
 use Rattle.lit_why.specs.Asked.{is_asked}
 use Rattle.lit_why.specs.Attempts.{AreFirstAttempts, AreOneAttempt, IsLeastTry, IsOn, TriesClass, agree, all_agree, give_same_values, part_with}
-use Rattle.lit_why.specs.Refutation.{IsCover, IsHiddenIn, IsRefutation, IsRefutedAttempt, case_box}
+use Rattle.lit_why.specs.Refutation.{IsCover, IsCauseIn, IsRefutation, IsRefutedAttempt, case_box}
 use Rattle.lit_why.proofs.AttemptLemmas.{agree_at, agree_itself, both, one_combination}
 use Rattle.lit_why.proofs.CaseLemmas.{order_by}
 use Rattle.lit_solve.proofs.RangeLemmas.{one_sources}
 use Rattle.lit_why.proofs.NodeLemmas.{on_sourced, placed}
 use Rattle.lit_why.proofs.SameValueLemmas.{try_together}
+use Rattle.lit_why.specs.declared.refusals.causes.Incoherence.{Incoherence}
+use Rattle.lit_why.specs.declared.refusals.causes.Incoherence.TheVariants.{HiddenBy, ReadFirst}
 
 -- ---- a refuted box has no completion
 module _ (laws : Laws) (box : Box) (x : Execution) (is_box : IsBox box) (is : IsCompletion box x) where
@@ -53,9 +55,9 @@ module _ (laws : Laws) (box : Box) (x : Execution) (is_box : IsBox box) (is : Is
   grows : Grows events (GivenIn box) (ReadsByteFrom events x.sources)
   grows = Grows-from events (GivenIn box) (ReadsByteFrom events x.sources) (given_taken box x is)
 
-  hidden : (r b w : ℕ) (hidden_by : Option ℕ) → IsHiddenIn box r b w hidden_by → ¬ IsCoherentRead events (HappensBefore events x.sources) r b w
-  hidden r b w None h c = c.not_later (grows.happens_before r w h)
-  hidden r b w (Some v) h c = c.not_hidden v (record {
+  hidden : (r b w : ℕ) (cause : Incoherence) → IsCauseIn box r b w cause → ¬ IsCoherentRead events (HappensBefore events x.sources) r b w
+  hidden r b w ReadFirst h c = c.not_later (grows.happens_before r w h)
+  hidden r b w (HiddenBy v) h c = c.not_hidden v (record {
     writes = h.writes;
     in_range = h.in_range;
     after_source = grows.happens_before w v h.after_source;
@@ -65,13 +67,13 @@ module _ (laws : Laws) (box : Box) (x : Execution) (is_box : IsBox box) (is : Is
   pub refuted_none : (refusal : Refusal) → IsRefutation box refusal → ⊥
   refuted_none (FalseGuard agent place) h = h
   refuted_none (BeforeItself event) h = not_refuted box x is laws is_box (inl (event, Given h))
-  refuted_none (Incoherent r b w hidden_by) h =
+  refuted_none (Incoherent r b w cause) h =
       whole box x is laws is_box (inl (inr (inl (record {
         read = r;
         byte = b;
         source = w;
         is_given = given_taken box x is r b w h.0;
-        incoherent = hidden r b w hidden_by h.1;
+        incoherent = hidden r b w cause h.1;
       }))))
   refuted_none (Torn r w v) h =
       not_refuted box x is laws is_box (inr (inr (inl (record {

@@ -15,6 +15,8 @@ use Rattle.lit_valid.specs.PartOutcome.{observed_value}
 use Rattle.lit_why.specs.RacingPair.{IsLesserPair}
 use Rattle.lit_why.specs.declared.refusals.causes.Refusal.{Refusal}
 use Rattle.lit_why.specs.declared.refusals.causes.Refusal.TheVariants.{BeforeItself, FalseGuard, Incoherent, NoOrder, Torn}
+use Rattle.lit_why.specs.declared.refusals.causes.Incoherence.{Incoherence}
+use Rattle.lit_why.specs.declared.refusals.causes.Incoherence.TheVariants.{HiddenBy, ReadFirst}
 
 abbrev pub BeforeIn : PartModel → ℕ → ℕ → Type 0
 BeforeIn part = HappensBefore (part_events part) part.sources
@@ -42,9 +44,9 @@ pub record IsIncoherentAt (part : PartModel) (r b w : ℕ) : Type 0 where
   pub incoherent : ¬ IsCoherentRead (part_events part) (BeforeIn part) r b w
 
 -- the read happens before the source; or not, and this is the least event that hides the source
-abbrev pub IsIncoherentBy : PartModel → (r b w : ℕ) → Option ℕ → Type 0
-IsIncoherentBy part r b w None = BeforeIn part r w
-IsIncoherentBy part r b w (Some v) =
+abbrev pub IsRefutingCause : PartModel → (r b w : ℕ) → Incoherence → Type 0
+IsRefutingCause part r b w ReadFirst = BeforeIn part r w
+IsRefutingCause part r b w (HiddenBy v) =
     ¬ BeforeIn part r w × Hides (part_events part) (BeforeIn part) r b w v
     × ((u : ℕ) → u < v → ¬ Hides (part_events part) (BeforeIn part) r b w u)
 
@@ -66,8 +68,8 @@ abbrev pub IsRefusal : PartModel → Refusal → Type 0
 IsRefusal part (FalseGuard agent place) =
     IsFalseAt part agent place × ((a p : ℕ) → IsFalseAt part a p → ¬ IsLesserPair a p agent place)
 IsRefusal part (BeforeItself event) = HasNoFalse part × BeforeIn part event event × ((e : ℕ) → e < event → ¬ BeforeIn part e e)
-IsRefusal part (Incoherent r b w hidden_by) =
-    HasNoFalse part × HasNoCycle part × IsIncoherentAt part r b w × IsIncoherentBy part r b w hidden_by
+IsRefusal part (Incoherent r b w cause) =
+    HasNoFalse part × HasNoCycle part × IsIncoherentAt part r b w × IsRefutingCause part r b w cause
     × ((q c u : ℕ) → IsIncoherentAt part q c u → ¬ IsLesserPair q c r b)
 IsRefusal part (Torn r w v) =
     HasNoFalse part × HasNoCycle part × HasCoherentReads (part_events part) part.sources × IsTornBy part r w v

@@ -15,17 +15,19 @@ use Rattle.lit_why.specs.Attempts.{IsOn, agree}
 use Rattle.lit_why.specs.declared.refusals.causes.Refusal.{Refusal}
 use Rattle.lit_why.specs.declared.refusals.causes.Refusal.TheVariants.{BeforeItself, FalseGuard, Incoherent, NoOrder, Torn}
 use Rattle.lit_why.specs.declared.cases.covering.Case.{Case}
+use Rattle.lit_why.specs.declared.refusals.causes.Incoherence.{Incoherence}
+use Rattle.lit_why.specs.declared.refusals.causes.Incoherence.TheVariants.{HiddenBy, ReadFirst}
 
 -- the read happens before the source; or this event hides the source
-abbrev pub IsHiddenIn : Box → (r b w : ℕ) → Option ℕ → Type 0
-IsHiddenIn box r b w None = HappensBeforeIn box r w
-IsHiddenIn box r b w (Some v) = Hides (box_events box) (HappensBeforeIn box) r b w v
+abbrev pub IsCauseIn : Box → (r b w : ℕ) → Incoherence → Type 0
+IsCauseIn box r b w ReadFirst = HappensBeforeIn box r w
+IsCauseIn box r b w (HiddenBy v) = Hides (box_events box) (HappensBeforeIn box) r b w v
 
 -- What is given breaks this clause, with this witness. No guard is looked at.
 abbrev pub IsRefutation : Box → Refusal → Type 0
 IsRefutation box (FalseGuard agent place) = ⊥
 IsRefutation box (BeforeItself event) = HappensBeforeIn box event event
-IsRefutation box (Incoherent r b w hidden_by) = GivenIn box r b w × IsHiddenIn box r b w hidden_by
+IsRefutation box (Incoherent r b w cause) = GivenIn box r b w × IsCauseIn box r b w cause
 IsRefutation box (Torn r w v) =
     ReadsWholeBy (box_events box) (GivenIn box) r w × ReadsWholeBy (box_events box) (GivenIn box) r v × (w ≢ v)
 IsRefutation box NoOrder = ¬ HasOrder (length (box_events box)) (HappensBeforeIn box) (IsForbiddenIn box)

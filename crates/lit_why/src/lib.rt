@@ -33,5 +33,5 @@ pub use enumeration::attempts;
 pub use mixing::{LeastMixing, least_mixing};
 pub use parts::part_of;
 pub use racing::{RacingPair, is_data_race, racing_pair};
-pub use refusals::causes::Refusal;
+pub use refusals::causes::{Incoherence, Refusal};
 pub use refusals::refusal;

@@ -59,7 +59,7 @@ pub fn refusal(part: &Part<'_>, sources: &[u8]) -> Option<Refusal>
             read: found.read,
             byte: found.byte,
             source: found.source,
-            hidden_by: found.hidden_by,
+            cause: found.cause,
         });
     }
     let reads = part.reads_from();

@@ -2,7 +2,7 @@
 
 use lit_paths::plan;
 use lit_read::read;
-use lit_texts::{
+use lit_test_texts::{
     BOTH_EXCHANGE_FOR_ONE, EQUAL_STORES, PUBLICATION, STORE_BUFFERING, UNTOUCHED_BYTE,
 };
 use lit_valid::Class;

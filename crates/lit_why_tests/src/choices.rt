@@ -4,7 +4,7 @@ use crate::covers::WORDS;
 use lit_paths::{BYTE_READ_LIMIT, EVENT_LIMIT, Plan, plan};
 use lit_read::read;
 use lit_rel::Part;
-use lit_texts::{
+use lit_test_texts::{
     INDEPENDENT_READS, LOAD_BUFFERING_ATOMIC, MESSAGE_PASSING, READ_READ_COHERENCE_ATOMIC,
     STORE_BUFFERING, TYPED_READ,
 };

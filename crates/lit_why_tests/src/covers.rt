@@ -2,9 +2,9 @@
 
 use lit_paths::plan;
 use lit_read::read;
-use lit_texts::{PUBLICATION, STORE_BUFFERING};
+use lit_test_texts::{PUBLICATION, STORE_BUFFERING};
 use lit_valid::Class;
-use lit_why::{Refusal, attempts, cover_of};
+use lit_why::{Incoherence, Refusal, attempts, cover_of};
 use std::alloc::AllocGlobal;
 use std::process::Abort;
 use std::test::Fail;
@@ -68,14 +68,14 @@ fn what_is_given_refutes(rt: HostRuntime) -> Result<(), Fail> {
         read: 5,
         byte: 0,
         source: 0,
-        hidden_by: Some(2),
+        cause: Incoherence::HiddenBy(2),
     };
     assert_cover(&rt, PUBLICATION, Class::Met, 9, (1, true, Some(of_bytes)))?;
     let of_words = Refusal::Incoherent {
         read: 11,
         byte: 0,
         source: 0,
-        hidden_by: Some(8),
+        cause: Incoherence::HiddenBy(8),
     };
     assert_cover(&rt, WORDS, Class::Met, 9, (1, true, Some(of_words)))
 }
@@ -87,7 +87,7 @@ fn what_is_open_is_cut(rt: HostRuntime) -> Result<(), Fail> {
         read: 7,
         byte: 0,
         source: 2,
-        hidden_by: Some(3),
+        cause: Incoherence::HiddenBy(3),
     };
     assert_cover(&rt, TWICE, Class::Met, 9, (2, true, Some(first)))?;
     assert_cover(&rt, TWICE, Class::Met, 1, (1, false, Some(first)))?;

@@ -3,7 +3,7 @@
 use lit_paths::plan;
 use lit_read::read;
 use lit_solve::Goal;
-use lit_texts::{MESSAGE_PASSING_PLAIN, PUBLICATION, STORE_BUFFERING};
+use lit_test_texts::{MESSAGE_PASSING_PLAIN, PUBLICATION, STORE_BUFFERING};
 use lit_why::{is_data_race, least_mixing, part_of};
 use std::alloc::AllocGlobal;
 use std::process::Abort;

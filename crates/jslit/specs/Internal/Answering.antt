@@ -7,9 +7,9 @@ use Rattle.lit_search.specs.Report.{Report}
 use Rattle.jslit.specs.declared.fault.RunFault.{RunFault}
 use Rattle.jslit.specs.declared.fault.RunFault.TheVariants as faults
 use Rattle.jslit.specs.Answer.{IsAnswerOf}
-use Rattle.lit_print.specs.Writing.{AppendsBeginning}
+use Rattle.lit_report.specs.Writing.{AppendsBeginning}
 use Rattle.jslit.specs.QuickAnswer.{IsFirst}
-use Rattle.jslit.specs.Internal.FirstEntry.{IsOnlyEntry, entry_of_option}
+use Rattle.lit_report.specs.Internal.FirstEntry.{IsOnlyEntry, entry_of_option}
 
 -- known bytes grew by the answer for a test
 pub record HasWritten (quick : Bool) (test : Litmus) (old new : Option (List ℕ)) : Type 0 where

@@ -1,9 +1,9 @@
 -- The effect of printing the line of a fault.
 use Rattle.std.specs.Prelude.{◌≡◌, ◌≢◌, ◌<◌, Option, List, ℕ}
-use Rattle.lit_print.specs.declared.counted.Counted.{Counted}
+use Rattle.lit_report.specs.declared.counted.Counted.{Counted}
 use Rattle.jslit.specs.declared.fault.RunFault.{RunFault}
 use Rattle.jslit.specs.Answer.{status_of}
-use Rattle.lit_print.specs.Counted.{device_of, failures_of}
+use Rattle.lit_report.specs.Counted.{device_of, failures_of}
 use Rattle.jslit.specs.RunAnswer.{HasSaid}
 
 -- The status is that of the fault. The output took the line of a refusal, and else nothing.

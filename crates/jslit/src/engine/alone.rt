@@ -5,41 +5,20 @@
 
 ghost use Rattle.std.specs.Prelude.{◌≡◌, ◌≢◌, length, IfOk, IfErr, OnOk, IsErrOf};
 ghost use Rattle.lit_paths.specs.Choice.{choices_of};
-ghost use Rattle.lit_print.specs.Counted.{device_of, failures_of, one_more};
+ghost use Rattle.lit_report.specs.Counted.{device_of, failures_of, one_more};
 ghost use Rattle.lit_search.specs.Report.{IsReport, in_range};
 ghost use Rattle.jslit.specs.Answer.{HasBegun, HasReported, IsFaultOn};
 ghost use Rattle.jslit.specs.Internal.Answering.{HasWritten, HasWrittenSome, IsOfTextOrWriting, IsOfWriting};
 ghost use Rattle.jslit.specs.Internal.Searching.{IsFirstChoice};
 
 use crate::engine::answering::{quick_report, report};
-use crate::engine::printing::Printer;
 use crate::fault::RunFault;
-use lit_pages::put_all;
 use lit_paths::{Plan, plan};
-use lit_print::{Buffer, Counted};
 use lit_read::read;
+use lit_report::{Alone, Counted};
 use lit_search::{Class, Found, first_in, search_range};
 use std::alloc::Global;
 use std::io::Write;
-
-/// The thread that calls.
-#[derive(Drop)]
-struct Alone;
-
-impl Printer for Alone {
-    ghost ready = { λ _. Unit {0} };
-
-    fn put<W: Write>(
-        &mut self,
-        _alloc: Global,
-        buffer: &mut Buffer,
-        output: &mut Counted<W>,
-        plan: &Plan<'_>,
-        found: &Found,
-    ) {
-        put_all(buffer, output, plan, found);
-    }
-}
 
 /// The report on all choices.
 fn found_alone(alloc: Global, plan: &Plan<'_>) -> Result<Found, RunFault>

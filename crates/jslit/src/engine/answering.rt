@@ -3,19 +3,16 @@
 ghost use Rattle.std.specs.Prelude.{◌≡◌, ◌≤◌, true, false, length, IfOk, IfErr, OnOk, IsErrOf};
 ghost use Rattle.lit_paths.specs.Choice.{choices_of};
 ghost use Rattle.lit_paths.specs.declared.limits.TheConstants.{CHOICE_LIMIT};
-ghost use Rattle.lit_print.specs.Counted.{device_of, failures_of, one_more};
+ghost use Rattle.lit_report.specs.Counted.{device_of, failures_of, one_more};
 ghost use Rattle.lit_search.specs.Report.{IsReport, in_range};
 ghost use Rattle.lit_valid.specs.declared.class.Class.TheVariants as of_class;
 ghost use Rattle.jslit.specs.Internal.Answering.{HasWritten, HasWrittenSome, IsFirstFound, IsOfWriting};
 ghost use Rattle.jslit.specs.Internal.Searching.{IsFirstChoice};
 
-use crate::engine::printing::Printer;
 use crate::fault::RunFault;
 use crate::laws::reports_are_complete;
-use crate::report::report_writer::{write_quick_report, write_report};
-use crate::verdict::{verdict_from, verdict_on};
 use lit_paths::Plan;
-use lit_print::Counted;
+use lit_report::{Counted, Printer, verdict_from, verdict_on, write_quick_report, write_report};
 use lit_search::laws::choices_have_one_outcome;
 use lit_search::{Class, Found, search_range};
 use std::alloc::Global;
@@ -42,7 +39,8 @@ pub(crate) fn report<P: Printer, W: Write>(
     let verdict = verdict_on(plan, found);
     // The law says that the report has the outcome of each valid execution.
     reports_are_complete();
-    write_report(alloc, output, plan, found, verdict, printer)
+    write_report(alloc, output, plan, found, verdict, printer)?;
+    Ok(())
 }
 
 /// The report of the first choice of a class alone, which has the choice's outcome and order (decision 64). The class is there for the
@@ -91,5 +89,6 @@ pub(crate) fn quick_report<W: Write>(
     let met = first_found(alloc, plan, Class::Met, first_met)?;
     let unmet = first_found(alloc, plan, Class::Unmet, first_unmet)?;
     let verdict = verdict_from(met.is_some(), unmet.is_some());
-    write_quick_report(output, plan, &met, &unmet, verdict)
+    write_quick_report(output, plan, &met, &unmet, verdict)?;
+    Ok(())
 }

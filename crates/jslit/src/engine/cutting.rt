@@ -4,9 +4,9 @@ ghost use Rattle.std.specs.Prelude.{◌≡◌, ◌<◌, ◌≤◌};
 ghost use Rattle.lit_paths.specs.declared.limits.TheConstants.{CHOICE_LIMIT};
 ghost use Rattle.lit_share.specs.declared.limits.TheConstants.{CUT_LIMIT};
 
+use lit_options::Options;
 use lit_paths::{Combination, Plan};
 use lit_syntax::REGISTERS;
-use lit_words::Options;
 
 /// How many pieces two to four workers draw at the most.
 const PIECES_OF_FEW: u64 = 16;

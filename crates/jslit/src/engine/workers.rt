@@ -2,7 +2,7 @@
 
 ghost use Rattle.std.specs.Prelude.{◌≡◌, ◌≢◌, length, IfOk, IfErr, OnOk, IsErrOf};
 ghost use Rattle.lit_paths.specs.Choice.{choices_of};
-ghost use Rattle.lit_print.specs.Counted.{device_of, failures_of, one_more};
+ghost use Rattle.lit_report.specs.Counted.{device_of, failures_of, one_more};
 ghost use Rattle.lit_search.specs.Report.{IsReport, in_range};
 ghost use Rattle.lit_share.specs.Quick.{IsQuickAnswer};
 ghost use Rattle.lit_valid.specs.declared.class.Class.TheVariants as of_class;
@@ -13,16 +13,14 @@ ghost use Rattle.jslit.specs.Internal.Searching.{IsFirstChoice};
 use crate::engine::answering::{quick_report, report};
 use crate::engine::cutting::{cut_for_outcomes, cut_of};
 use crate::engine::few_steps::found_soon;
-use crate::engine::printing::Printer;
 use crate::fault::RunFault;
 use crate::watch::Watch;
-use lit_pages::{Page, pages_for, put_pages};
+use lit_options::Options;
 use lit_paths::{Plan, plan};
-use lit_print::{Buffer, Counted};
 use lit_read::read;
+use lit_report::{Counted, Pages, pages_for};
 use lit_search::{Class, Example, Found};
 use lit_share::{Quick, quick, search};
-use lit_words::Options;
 use std::alloc::{AllocError, Global};
 use std::io::Write;
 use std::thread::Threads;
@@ -34,30 +32,6 @@ pub(crate) fn passes(alloc: Global, workers: usize) -> Result<Vec<()>, AllocErro
     let mut passes = Vec::new(alloc);
     passes.resize(workers, ())?;
     Ok(passes)
-}
-
-/// The pages that workers print.
-#[derive(Drop)]
-struct Pages<'a, T> {
-    rt: &'a T,
-    pages: Vec<Page>,
-}
-
-impl<T: Threads + Sync> Printer for Pages<'_, T> {
-    ghost use Rattle.std.specs.Thread.{IsSync};
-
-    ghost ready = { λ _. IsSync T.row };
-
-    fn put<W: Write>(
-        &mut self,
-        alloc: Global,
-        buffer: &mut Buffer,
-        output: &mut Counted<W>,
-        plan: &Plan<'_>,
-        found: &Found,
-    ) {
-        put_pages(self.rt, alloc, buffer, output, plan, found, &mut self.pages);
-    }
 }
 
 /// The report on all choices.

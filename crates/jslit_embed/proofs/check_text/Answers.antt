@@ -1,5 +1,5 @@
 use Rattle.std.proofs.Common.{◌≢◌, ◌∙◌, ◌<◌, Bor, List, Some, ℕ, arith, ap, sym}
-use Rattle.lit_print.specs.Counted.{failures_of}
+use Rattle.lit_report.specs.Counted.{failures_of}
 use Rattle.jslit.specs.Answer.{IsAnswerOn, IsFaultOn}
 use Rattle.jslit_embed.proofs.Calls.{answered, refused}
 use Rattle.jslit_embed.proofs.check_text.Goals as goal

@@ -3,7 +3,7 @@
 use super::reports::Reported;
 
 pub(crate) const WIDE: Reported = (
-    lit_texts::AMONG_IDLE_EVENTS,
+    lit_test_texts::AMONG_IDLE_EVENTS,
     "test wide
 outcome A.r0=0 B.r0=1
   from A.1 init[1]

@@ -3,7 +3,7 @@
 use super::reports::Reported;
 
 pub(crate) const INDEPENDENT_READS: Reported = (
-    lit_texts::INDEPENDENT_READS,
+    lit_test_texts::INDEPENDENT_READS,
     "test iriw
 outcome C.r0=0 C.r1=0 D.r0=0 D.r1=0
   from C.0 init[0]
@@ -102,7 +102,7 @@ data race no
 );
 
 pub(crate) const INDEPENDENT_READS_PLAIN: Reported = (
-    lit_texts::INDEPENDENT_READS_PLAIN,
+    lit_test_texts::INDEPENDENT_READS_PLAIN,
     "test iriw
 outcome C.r0=0 C.r1=0 D.r0=0 D.r1=0
   from C.0 init[0]

@@ -3,7 +3,7 @@
 use super::reports::Reported;
 
 pub(crate) const LOAD_BUFFERING: Reported = (
-    lit_texts::LOAD_BUFFERING,
+    lit_test_texts::LOAD_BUFFERING,
     "test lb
 outcome A.r0=0 B.r0=0
   from A.0 init[0]
@@ -20,7 +20,7 @@ data race yes
 );
 
 pub(crate) const LOAD_BUFFERING_ATOMIC: Reported = (
-    lit_texts::LOAD_BUFFERING_ATOMIC,
+    lit_test_texts::LOAD_BUFFERING_ATOMIC,
     "test lb
 outcome A.r0=0 B.r0=0
   from A.0 init[0]
@@ -33,7 +33,7 @@ data race no
 );
 
 pub(crate) const BOTH_EXCHANGE_FOR_ONE: Reported = (
-    lit_texts::BOTH_EXCHANGE_FOR_ONE,
+    lit_test_texts::BOTH_EXCHANGE_FOR_ONE,
     "test cas
 outcome A.r0=0 B.r0=1
   from A.0 init[0]
@@ -50,7 +50,7 @@ data race no
 );
 
 pub(crate) const FAILED_EXCHANGE: Reported = (
-    lit_texts::FAILED_EXCHANGE,
+    lit_test_texts::FAILED_EXCHANGE,
     "test casfail
 outcome A.r0=0 A.r1=0
   from A.0 init[0]
@@ -71,7 +71,7 @@ data race yes
 );
 
 pub(crate) const SWAPS: Reported = (
-    lit_texts::SWAPS,
+    lit_test_texts::SWAPS,
     "test swap
 outcome A.r0=0 B.r0=1
   from A.0 init[0]

@@ -6,7 +6,7 @@ use super::independent_reads::{INDEPENDENT_READS, INDEPENDENT_READS_PLAIN};
 pub(crate) type Reported = (&'static str, &'static str);
 
 pub(crate) const STORE_BUFFERING: Reported = (
-    lit_texts::STORE_BUFFERING,
+    lit_test_texts::STORE_BUFFERING,
     "test sb
 outcome A.r0=0 B.r0=1
   from A.1 init[1]
@@ -27,7 +27,7 @@ data race no
 );
 
 pub(crate) const STORE_BUFFERING_PLAIN: Reported = (
-    lit_texts::STORE_BUFFERING_PLAIN,
+    lit_test_texts::STORE_BUFFERING_PLAIN,
     "test sbplain
 outcome A.r0=0 B.r0=0
   from A.1 init[1]
@@ -52,7 +52,7 @@ data race yes
 );
 
 pub(crate) const MESSAGE_PASSING: Reported = (
-    lit_texts::MESSAGE_PASSING,
+    lit_test_texts::MESSAGE_PASSING,
     "test mp
 outcome B.r0=0 B.r1=0
   from B.0 init[1]
@@ -73,7 +73,7 @@ data race yes
 );
 
 pub(crate) const MESSAGE_PASSING_PLAIN: Reported = (
-    lit_texts::MESSAGE_PASSING_PLAIN,
+    lit_test_texts::MESSAGE_PASSING_PLAIN,
     "test mpplain
 outcome B.r0=0 B.r1=0
   from B.0 init[1]
@@ -98,7 +98,7 @@ data race yes
 );
 
 pub(crate) const READ_READ_COHERENCE_PLAIN: Reported = (
-    lit_texts::READ_READ_COHERENCE_PLAIN,
+    lit_test_texts::READ_READ_COHERENCE_PLAIN,
     "test corr
 outcome B.r0=0 B.r1=0
   from B.0 init[0]
@@ -123,7 +123,7 @@ data race yes
 );
 
 pub(crate) const READ_READ_COHERENCE_ATOMIC: Reported = (
-    lit_texts::READ_READ_COHERENCE_ATOMIC,
+    lit_test_texts::READ_READ_COHERENCE_ATOMIC,
     "test corr
 outcome B.r0=0 B.r1=0
   from B.0 init[0]
@@ -144,7 +144,7 @@ data race no
 );
 
 pub(crate) const OWN_STORE: Reported = (
-    lit_texts::OWN_STORE,
+    lit_test_texts::OWN_STORE,
     "test own
 outcome A.r0=1
   from A.1 A.0
@@ -156,7 +156,7 @@ data race no
 );
 
 pub(crate) const UNTOUCHED_BYTE: Reported = (
-    lit_texts::UNTOUCHED_BYTE,
+    lit_test_texts::UNTOUCHED_BYTE,
     "test still
 outcome A.r0=0
   from A.0 init[0]
@@ -168,7 +168,7 @@ data race no
 );
 
 pub(crate) const EQUAL_STORES: Reported = (
-    lit_texts::EQUAL_STORES,
+    lit_test_texts::EQUAL_STORES,
     "test twin
 outcome C.r0=0
   from C.0 init[0]
@@ -183,7 +183,7 @@ data race yes
 );
 
 pub(crate) const PUBLICATION: Reported = (
-    lit_texts::PUBLICATION,
+    lit_test_texts::PUBLICATION,
     "test pub
 outcome B.r0=0 B.r1=0
   from B.0 init[1]
@@ -199,7 +199,7 @@ data race no
 );
 
 pub(crate) const MASKED_STORE: Reported = (
-    lit_texts::MASKED_STORE,
+    lit_test_texts::MASKED_STORE,
     "test mask
 outcome B.r0=0
   from B.0 init[0]

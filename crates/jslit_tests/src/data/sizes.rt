@@ -3,7 +3,7 @@
 use super::reports::Reported;
 
 const MIXED_SIZES: Reported = (
-    lit_texts::STORE_BUFFERING_MIXED,
+    lit_test_texts::STORE_BUFFERING_MIXED,
     "test sbmixed
 outcome A.r0=0 B.r0=0
   from A.1 init[2]
@@ -28,7 +28,7 @@ data race yes
 );
 
 const TORN_READ: Reported = (
-    lit_texts::TYPED_READ,
+    lit_test_texts::TYPED_READ,
     "test tear
 outcome C.r0=0
   from C.0 init[0] init[1]
@@ -58,7 +58,7 @@ data race yes
 );
 
 const VIEWED_READ: Reported = (
-    lit_texts::VIEWED_READ,
+    lit_test_texts::VIEWED_READ,
     "test teardv
 outcome C.r0=0
   from C.0 init[0] init[1]

@@ -3,7 +3,7 @@ use Rattle.std.specs.Prelude.{◌≡◌, ℕ, ◌<◌, Bool, true, false, cond, 
 use Rattle.lit_syntax.specs.Syntax.{Litmus}
 use Rattle.lit_paths.specs.Choice.{choices_of}
 use Rattle.lit_paths.specs.Plan.{IsRefusal}
-use Rattle.lit_print.specs.EntryText.{line}
+use Rattle.lit_report.specs.EntryText.{line}
 use Rattle.lit_reason.specs.AnswerText.{HasBehind, IsChoiceText, IsClassText, IsRaceText, no_choice_line, test_line}
 use Rattle.lit_reason.specs.declared.explanation.Subject.{Subject}
 use Rattle.lit_reason.specs.declared.explanation.Subject.TheVariants as subjects

@@ -2,7 +2,7 @@
 
 use super::{give, has_combinations, of_sources, part_with_none, plan_of, test_of};
 use lit_rel::Part;
-use lit_texts::{LOAD_BUFFERING, LOAD_BUFFERING_ATOMIC, MESSAGE_PASSING, TYPED_READ};
+use lit_test_texts::{LOAD_BUFFERING, LOAD_BUFFERING_ATOMIC, MESSAGE_PASSING, TYPED_READ};
 use std::process::Abort;
 
 const UNWRITTEN: &str = "test unwritten

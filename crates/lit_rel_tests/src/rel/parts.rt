@@ -5,7 +5,7 @@ use super::{
 };
 use lit_paths::Plan;
 use lit_rel::Part;
-use lit_texts::{
+use lit_test_texts::{
     MESSAGE_PASSING, OWN_STORE, STORE_BUFFERING, STORE_BUFFERING_MIXED, STORE_BUFFERING_PLAIN,
     TYPED_READ, VIEWED_READ,
 };

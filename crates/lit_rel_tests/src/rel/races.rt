@@ -1,7 +1,7 @@
 //! Data races of the sources given.
 
 use super::{give_all, part_with_none, plan_of, test_of};
-use lit_texts::{
+use lit_test_texts::{
     EQUAL_STORES, INDEPENDENT_READS_PLAIN, MESSAGE_PASSING, OWN_STORE, STORE_BUFFERING,
     STORE_BUFFERING_MIXED, STORE_BUFFERING_PLAIN, SWAPS, TYPED_READ,
 };

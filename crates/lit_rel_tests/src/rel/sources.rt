@@ -8,7 +8,7 @@ use lit_paths::{ByteRead, Event, event_at};
 use lit_rel::{
     Part, can_synchronize, is_source_refused, others_between, peers_of, unsourced_order,
 };
-use lit_texts::{LOAD_BUFFERING_ATOMIC, STORE_BUFFERING};
+use lit_test_texts::{LOAD_BUFFERING_ATOMIC, STORE_BUFFERING};
 use std::process::Abort;
 
 /// The first byte read of a part of six events.

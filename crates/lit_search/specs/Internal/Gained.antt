@@ -19,7 +19,7 @@ pub record GoesOn (old new : List Entry) : Type 0 where
   pub is : new ≡ old ++ added
 
 -- A list goes on by outcomes of the choices with these numbers that it lacked, each with its least example, and has all
--- outcomes of these choices then. A mark that was there stays, and one comes exactly where one of them has a data race.
+-- outcomes of these choices then. A data race that was there stays, and one comes exactly where one of them has a data race.
 pub record Gains (t : Litmus) (Numbers : ℕ → Type 0) (old new : List Entry) (before now : Bool) : Type 0 where
   pub goes_on : GoesOn old new
   pub each : (entry : Entry) → HasEntry goes_on.added entry → IsLeastOf t Numbers entry

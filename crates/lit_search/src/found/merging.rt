@@ -9,10 +9,10 @@ ghost use Rattle.lit_search.specs.Report.{IsReport, in_either};
 ghost use Rattle.lit_search.specs.Internal.Merged.{heads_cmp, lesser as lesser_of, merged};
 ghost use Rattle.lit_search.specs.Internal.Ranks.{AreRanks, IsRank};
 
+use crate::fault::SearchFault;
 use crate::found::Found;
 use crate::found::examples::Examples;
 use crate::found::ranking::{Rank, all_behind, cmp_ranks, find};
-use lit_interleave::SearchFault;
 use std::alloc::{AllocError, Global};
 use std::cmp::Ordering;
 use std::collections::VecDeque;
@@ -93,7 +93,7 @@ fn merged_ranks(
     Ok(ranks)
 }
 
-/// The outcomes of both, and their mark of data races.
+/// The outcomes of both, and whether either has a data race.
 fn with_both(alloc: Global, mut a: Found, mut b: Found) -> Result<Found, AllocError>
     ensures { IfOk result (IsMerge a b) }
 {

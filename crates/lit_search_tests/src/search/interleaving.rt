@@ -4,7 +4,7 @@ use lit_paths::plan;
 use lit_read::read;
 use lit_search::{Found, interleave, search_range};
 use lit_syntax::Test;
-use lit_texts::{EXCHANGES, LOAD_BUFFERING, STORE_BUFFERING, VIEWED_READ};
+use lit_test_texts::{EXCHANGES, LOAD_BUFFERING, STORE_BUFFERING, VIEWED_READ};
 use std::alloc::Global;
 use std::process::Abort;
 use std::test::Fail;

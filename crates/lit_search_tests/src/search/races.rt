@@ -4,7 +4,7 @@ use super::{found_in, merged, take_range};
 use lit_paths::{Plan, plan};
 use lit_read::read;
 use lit_search::Collector;
-use lit_texts::{EQUAL_STORES, LOAD_BUFFERING, MASKED_STORE, PUBLICATION, TYPED_READ};
+use lit_test_texts::{EQUAL_STORES, LOAD_BUFFERING, MASKED_STORE, PUBLICATION, TYPED_READ};
 use std::alloc::Global;
 use std::process::Abort;
 use std::test::Fail;

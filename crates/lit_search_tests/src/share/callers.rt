@@ -11,7 +11,7 @@ use lit_paths::{Plan, plan};
 use lit_read::read;
 use lit_search::{Found, merge};
 use lit_share::{OpenGate, ShareFault, work};
-use lit_texts::INDEPENDENT_READS;
+use lit_test_texts::INDEPENDENT_READS;
 use std::alloc::Global;
 use std::test::Fail;
 use std::thread::{Threads, join_mut};

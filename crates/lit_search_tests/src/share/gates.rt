@@ -3,7 +3,7 @@
 use lit_paths::{Plan, plan};
 use lit_read::read;
 use lit_share::{Gate, Quick, quick, search};
-use lit_texts::{LOAD_BUFFERING, STORE_BUFFERING};
+use lit_test_texts::{LOAD_BUFFERING, STORE_BUFFERING};
 use std::alloc::AllocGlobal;
 use std::process::Abort;
 use std::sync::atomic::{AtomicBool, AtomicU64, Ordering};

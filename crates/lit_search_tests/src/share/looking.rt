@@ -8,7 +8,7 @@ use lit_desk::{Class2, Desk, Place};
 use lit_paths::{Plan, plan};
 use lit_read::read;
 use lit_share::{Gate, hunt};
-use lit_texts::{EQUAL_STORES, LOAD_BUFFERING};
+use lit_test_texts::{EQUAL_STORES, LOAD_BUFFERING};
 use std::alloc::AllocGlobal;
 use std::process::Abort;
 use std::sync::atomic::{AtomicU64, Ordering};

@@ -5,7 +5,7 @@ ghost use Rattle.std.specs.Prelude.{◌≡◌, ◌<◌, ◌≤◌, IfOk, length}
 use lit_paths::{Plan, plan};
 use lit_read::read;
 use lit_share::{OpenGate, quick, search};
-use lit_texts::TWELVE_BRANCHES;
+use lit_test_texts::TWELVE_BRANCHES;
 use std::alloc::AllocGlobal;
 use std::process::Abort;
 use std::test::Fail;

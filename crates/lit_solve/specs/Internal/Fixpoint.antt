@@ -30,7 +30,7 @@ abbrev pub TakesFrom : Execution → ℕ → EventSet → Type 0
 TakesFrom x k set = (w : ℕ) → slice_get x.sources k ≡ Some w → HasEvent set w
 
 -- the box within another whose completions are those of that with a source of a set for the k-th byte read
-pub record IsCut (old : Box) (k : ℕ) (set : EventSet) (new : Box) : Type 0 where
+pub record IsRestricted (old : Box) (k : ℕ) (set : EventSet) (new : Box) : Type 0 where
   pub within : IsWithin new old
   pub inside : (w : ℕ) → HasSource new k w → HasEvent set w
   pub retained : (x : Execution) → IsCompletion old x → TakesFrom x k set → IsCompletion new x

@@ -74,8 +74,8 @@ shares_below events [] sources k = 0
 shares_below events (it ∷ reads) sources k = share_below events it.read sources k + shares_below events reads sources k
 
 -- With the digits of the listed reads it is the number of the choice, whatever sources these take.
-abbrev pub IsNumberBeside : Litmus × ℕ → List OpenRead → List ℕ → ℕ → Type 0
-IsNumberBeside c reads sources number =
+abbrev pub IsNumberWithout : Litmus × ℕ → List OpenRead → List ℕ → ℕ → Type 0
+IsNumberWithout c reads sources number =
     (others : List ℕ) → AgreeBeside (events_on c) reads sources others
     → choices_before c.0 c.1 + digits_below (events_on c) others (length (byte_reads (events_on c)))
     ≡ number + shares_below (events_on c) reads others (length (byte_reads (events_on c)))
@@ -86,7 +86,7 @@ pub record IsChosen (box : Box) (reads : List OpenRead) (values : List ℕ) (num
   pub execution : Execution
   pub completes : IsCompletion box execution
   pub beside : ChangesListed (box.test, box.combination) reads values (execution_outcome box.test execution)
-  pub numbered : IsNumberBeside (box.test, box.combination) reads execution.sources number
+  pub numbered : IsNumberWithout (box.test, box.combination) reads execution.sources number
   pub least : (r : ℕ) → ¬ IsListed reads r → (x : Execution) → IsCompletion box x
       → ((j : ℕ) → Observes (box.test, box.combination) r j
       → slice_index_or (execution_outcome box.test x) j 0 ≡ slice_index_or (execution_outcome box.test execution) j 0)

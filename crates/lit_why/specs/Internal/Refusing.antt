@@ -9,6 +9,8 @@ use Rattle.lit_rel.specs.Part.{PartModel}
 use Rattle.lit_rel.specs.TearFree.{CanReadWhole}
 use Rattle.lit_why.specs.RacingPair.{IsLesserPair}
 use Rattle.lit_why.specs.Refusal.{IsFalseAt, IsFalseIn}
+use Rattle.lit_why.specs.declared.refusals.causes.Incoherence.{Incoherence}
+use Rattle.lit_why.specs.declared.refusals.causes.Incoherence.TheVariants.{HiddenBy, ReadFirst}
 
 -- the first guard of a list that is false
 pub record IsFirstFalse (part : PartModel) (first : ℕ) (guards : List Tested) (place : ℕ) : Type 0 where
@@ -23,19 +25,19 @@ pub record IsLeastFalse (part : PartModel) (agent place : ℕ) : Type 0 where
   pub least : (a p : ℕ) → IsFalseAt part a p → ¬ IsLesserPair a p agent place
 
 -- why a byte is not coherent
-abbrev pub IsHiddenBy : List Event → (ℕ → ℕ → Type 0) → (r b w : ℕ) → Option ℕ → Type 0
-IsHiddenBy events before r b w None = before r w
-IsHiddenBy events before r b w (Some v) = ¬ before r w × Hides events before r b w v × ((u : ℕ) → u < v → ¬ Hides events before r b w u)
+abbrev pub IsLeastCause : List Event → (ℕ → ℕ → Type 0) → (r b w : ℕ) → Incoherence → Type 0
+IsLeastCause events before r b w ReadFirst = before r w
+IsLeastCause events before r b w (HiddenBy v) = ¬ before r w × Hides events before r b w v × ((u : ℕ) → u < v → ¬ Hides events before r b w u)
 
 -- the first byte read with its source that is not coherent
 pub record IsFirstIncoherent (events : List Event) (before : ℕ → ℕ → Type 0) (reads : List ByteRead) (sources : List ℕ) (place r b w : ℕ)
-    (hidden_by : Option ℕ) : Type 0 where
+    (cause : Incoherence) : Type 0 where
   pub byte : ByteRead
   pub at_read : slice_get reads place ≡ Some byte
   pub read : byte.read ≡ r
   pub of_byte : byte.byte ≡ b
   pub at_source : slice_get sources place ≡ Some w
-  pub hidden : IsHiddenBy events before r b w hidden_by
+  pub hidden : IsLeastCause events before r b w cause
   pub least : (k : ℕ) (other : ByteRead) (u : ℕ) → k < place → slice_get reads k ≡ Some other → slice_get sources k ≡ Some u
       → IsCoherentRead events before other.read other.byte u
 

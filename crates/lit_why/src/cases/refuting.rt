@@ -5,14 +5,14 @@ ghost use Rattle.lit_paths.specs.ByteReads.{byte_reads};
 ghost use Rattle.lit_rel.specs.Rows.{Holds, rows_len};
 ghost use Rattle.lit_solve.specs.Box.{IsBox, box_with, events_on};
 ghost use Rattle.lit_solve.specs.Given.{GivenIn, HappensBeforeIn};
-ghost use Rattle.lit_why.specs.Refutation.{IsHiddenIn, IsRefutation, IsUnrefuted};
+ghost use Rattle.lit_why.specs.Refutation.{IsCauseIn, IsRefutation, IsUnrefuted};
 ghost use Rattle.lit_why.specs.Internal.Relations.{IsCoherentAt};
 
 use crate::cases::given::{between_of, byte_read, given_source, relations_of};
 use crate::derivations::first_before_itself;
 use crate::refusals::causes::Refusal;
 use crate::refusals::has_order;
-use crate::refusals::incoherence::{Incoherence, why};
+use crate::refusals::incoherence::{IncoherentByte, incoherence};
 use crate::refusals::tearing::first_torn;
 use lit_rel::Rows;
 use lit_solve::{Domains, Problem};
@@ -23,36 +23,40 @@ fn incoherent_at(
     domains: &Domains,
     before: &Rows,
     place: usize,
-) -> Option<Incoherence>
+) -> Option<IncoherentByte>
     requires place { place < length (byte_reads (events_on problem.now)) }
     requires is_box { IsBox (box_with problem.now domains.now) }
     requires len { rows_len before.now ≡ length (events_on problem.now) }
     requires pairs { (e d : ℕ) → Holds before.now e d ↔ HappensBeforeIn (box_with problem.now domains.now) e d }
     ensures { MatchOption result (IsCoherentAt (box_with problem.now domains.now) place)
         (λ found. GivenIn (box_with problem.now domains.now) found.read found.byte found.source
-        × IsHiddenIn (box_with problem.now domains.now) found.read found.byte found.source found.hidden_by) }
+        × IsCauseIn (box_with problem.now domains.now) found.read found.byte found.source found.cause) }
 {
     let events = problem.combination().events();
     let at = byte_read(problem, place);
     let source = given_source(problem, domains, place)? as u8;
-    let hidden_by = why(events, before, at, source)?;
-    Some(Incoherence {
+    let cause = incoherence(events, before, at, source)?;
+    Some(IncoherentByte {
         place,
         read: at.read,
         byte: at.byte,
         source,
-        hidden_by,
+        cause,
     })
 }
 
 /// The first byte that is given and not coherent, by happens-before as rows.
-fn incoherent_given(problem: &Problem<'_>, domains: &Domains, before: &Rows) -> Option<Incoherence>
+fn incoherent_given(
+    problem: &Problem<'_>,
+    domains: &Domains,
+    before: &Rows,
+) -> Option<IncoherentByte>
     requires is_box { IsBox (box_with problem.now domains.now) }
     requires len { rows_len before.now ≡ length (events_on problem.now) }
     requires pairs { (e d : ℕ) → Holds before.now e d ↔ HappensBeforeIn (box_with problem.now domains.now) e d }
     ensures { MatchOption result ((k : ℕ) → IsCoherentAt (box_with problem.now domains.now) k)
         (λ found. GivenIn (box_with problem.now domains.now) found.read found.byte found.source
-        × IsHiddenIn (box_with problem.now domains.now) found.read found.byte found.source found.hidden_by) }
+        × IsCauseIn (box_with problem.now domains.now) found.read found.byte found.source found.cause) }
 {
     for place in 0..problem.combination().byte_reads().len() {
         if let Some(found) = incoherent_at(problem, domains, before, place) {
@@ -79,7 +83,7 @@ pub fn refutation(problem: &Problem<'_>, domains: &Domains) -> Option<Refusal>
             read: found.read,
             byte: found.byte,
             source: found.source,
-            hidden_by: found.hidden_by,
+            cause: found.cause,
         });
     }
     let events = problem.combination().events();

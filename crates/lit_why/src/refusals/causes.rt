@@ -1,5 +1,14 @@
 //! The kinds of refusals of a complete part.
 
+/// Why a byte that a read has from a source is not coherent.
+#[derive(Clone, Copy, Debug, PartialEq, Eq)]
+pub enum Incoherence {
+    /// The read happens before the source.
+    ReadFirst,
+    /// The event with this number hides the source.
+    HiddenBy(u8),
+}
+
 /// Why no valid execution has a part's paths and sources.
 #[derive(Clone, Copy, Debug, PartialEq, Eq)]
 pub enum Refusal {
@@ -23,8 +32,8 @@ pub enum Refusal {
         byte: u8,
         /// The number of its source.
         source: u8,
-        /// The number of the event that hides the source; `None` where the read happens before the source.
-        hidden_by: Option<u8>,
+        /// Why it isn't.
+        cause: Incoherence,
     },
     /// A read would be whole from two events.
     Torn {

@@ -6,20 +6,20 @@ ghost use Rattle.lit_paths.specs.declared.byte_reads.ByteRead.{ByteRead as ReadB
 ghost use Rattle.lit_paths.specs.declared.limits.TheConstants.{EVENT_LIMIT};
 ghost use Rattle.lit_rel.specs.Coherent.{Hides, IsCoherentRead};
 ghost use Rattle.lit_rel.specs.Rows.{Holds, rows_len};
-ghost use Rattle.lit_why.specs.Internal.Refusing.{IsFirstIncoherent, IsHiddenBy};
+ghost use Rattle.lit_why.specs.Internal.Refusing.{IsFirstIncoherent, IsLeastCause};
 
+use crate::refusals::causes::Incoherence;
 use lit_paths::{ByteRead, Event, event_at};
 use lit_rel::Rows;
 
 /// A byte that is not coherent.
 #[derive(Clone, Copy)]
-pub(crate) struct Incoherence {
+pub(crate) struct IncoherentByte {
     pub place: usize,
     pub read: u8,
     pub byte: u8,
     pub source: u8,
-    /// The event that hides the source; `None` where the read happens before the source.
-    pub hidden_by: Option<u8>,
+    pub cause: Incoherence,
 }
 
 /// Whether an event writes a byte.
@@ -51,19 +51,24 @@ fn hiding(events: &[Event], before: &Rows, at: ByteRead, source: u8) -> Option<u
 }
 
 /// Why a byte is not coherent, or `None` where it is: the read happens before the source, or the least event that hides it.
-pub(crate) fn why(events: &[Event], before: &Rows, at: ByteRead, source: u8) -> Option<Option<u8>>
+pub(crate) fn incoherence(
+    events: &[Event],
+    before: &Rows,
+    at: ByteRead,
+    source: u8,
+) -> Option<Incoherence>
     requires len { rows_len before.now ≡ length events.now }
     requires few { length events.now ≤ EVENT_LIMIT }
     requires read { at.read < length events.now }
     requires source { source < length events.now }
     ensures { MatchOption result (IsCoherentRead events.now (Holds before.now) at.read at.byte source)
-        (IsHiddenBy events.now (Holds before.now) at.read at.byte source) }
+        (IsLeastCause events.now (Holds before.now) at.read at.byte source) }
 {
     if before.holds(usize::from(at.read), usize::from(source)) {
-        return Some(None);
+        return Some(Incoherence::ReadFirst);
     }
     match hiding(events, before, at, source) {
-        Some(other) => Some(Some(other as u8)),
+        Some(other) => Some(Incoherence::HiddenBy(other as u8)),
         None => None,
     }
 }
@@ -74,7 +79,7 @@ pub(crate) fn first_incoherent(
     before: &Rows,
     reads: &[ByteRead],
     sources: &[u8],
-) -> Option<Incoherence>
+) -> Option<IncoherentByte>
     requires len { rows_len before.now ≡ length events.now }
     requires few { length events.now ≤ EVENT_LIMIT }
     requires one_each { length sources.now ≡ length reads.now }
@@ -83,17 +88,17 @@ pub(crate) fn first_incoherent(
     ensures { MatchOption result ((k : ℕ) (at : ReadByte) (w : ℕ) → slice_get reads.now k ≡ Some at → slice_get sources.now k ≡ Some w
         → IsCoherentRead events.now (Holds before.now) at.read at.byte w)
         (λ found. IsFirstIncoherent events.now (Holds before.now) reads.now sources.now found.place found.read found.byte found.source
-        found.hidden_by) }
+        found.cause) }
 {
     for place in 0..reads.len() {
         let (at, source) = (reads[place], sources[place]);
-        if let Some(hidden_by) = why(events, before, at, source) {
-            return Some(Incoherence {
+        if let Some(cause) = incoherence(events, before, at, source) {
+            return Some(IncoherentByte {
                 place,
                 read: at.read,
                 byte: at.byte,
                 source,
-                hidden_by,
+                cause,
             });
         }
     }

@@ -3,7 +3,7 @@
 use super::part_with;
 use lit_paths::plan;
 use lit_read::read;
-use lit_texts::{LOAD_BUFFERING_ATOMIC, MESSAGE_PASSING, STORE_BUFFERING};
+use lit_test_texts::{LOAD_BUFFERING_ATOMIC, MESSAGE_PASSING, STORE_BUFFERING};
 use lit_why::{Link, StepKind, chain};
 use std::test::Fail;
 

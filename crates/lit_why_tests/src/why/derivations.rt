@@ -4,7 +4,7 @@ use super::part_with;
 use lit_paths::plan;
 use lit_read::read;
 use lit_rel::{Between, Part, Rows};
-use lit_texts::{
+use lit_test_texts::{
     INDEPENDENT_READS, LOAD_BUFFERING_ATOMIC, READ_READ_COHERENCE_PLAIN, STORE_BUFFERING,
 };
 use lit_why::{DerivationLine, Reason, derivation};

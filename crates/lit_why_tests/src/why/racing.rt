@@ -3,7 +3,7 @@
 use super::part_with;
 use lit_paths::plan;
 use lit_read::read;
-use lit_texts::{
+use lit_test_texts::{
     READ_READ_COHERENCE_ATOMIC, READ_READ_COHERENCE_PLAIN, STORE_BUFFERING, STORE_BUFFERING_PLAIN,
 };
 use lit_why::racing_pair;

@@ -3,11 +3,11 @@
 use super::part_with;
 use lit_paths::plan;
 use lit_read::read;
-use lit_texts::{
+use lit_test_texts::{
     LOAD_BUFFERING, LOAD_BUFFERING_ATOMIC, MESSAGE_PASSING, READ_READ_COHERENCE_ATOMIC,
     READ_READ_COHERENCE_PLAIN, STORE_BUFFERING, TYPED_READ,
 };
-use lit_why::{Refusal, refusal};
+use lit_why::{Incoherence, Refusal, refusal};
 use std::test::Fail;
 
 const UNWRITTEN: &str = "test unwritten
@@ -57,7 +57,7 @@ const REFUSED: [Refused<'_>; 10] = [
             read: 5,
             byte: 0,
             source: 0,
-            hidden_by: Some(2),
+            cause: Incoherence::HiddenBy(2),
         }),
     ),
     (
@@ -67,7 +67,7 @@ const REFUSED: [Refused<'_>; 10] = [
             read: 3,
             byte: 0,
             source: 0,
-            hidden_by: Some(1),
+            cause: Incoherence::HiddenBy(1),
         }),
     ),
     // The load (1) happens before the store (2).
@@ -78,7 +78,7 @@ const REFUSED: [Refused<'_>; 10] = [
             read: 1,
             byte: 0,
             source: 2,
-            hidden_by: None,
+            cause: Incoherence::ReadFirst,
         }),
     ),
     (

@@ -1,5 +1,5 @@
 use Rattle.std.proofs.Common.{◌<◌, ◌-◌, ◌^◌, arith}
-use Rattle.lit_print.specs.Counted.{device_of, failures_of}
+use Rattle.lit_report.specs.Counted.{device_of, failures_of}
 use Rattle.jslit.specs.Answer.{IsAnswerOn, IsFaultOn}
 use Rattle.jslit.proofs.Finishing.{finished, finished_memory, finished_status, nothing_served, room_left}
 use Rattle.jslit.proofs.command.check_watched.Goals as goal

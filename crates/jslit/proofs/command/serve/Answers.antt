@@ -1,5 +1,5 @@
 use Rattle.std.proofs.Common.{◌∙◌, ◌<◌, ap, Bor, List, ℕ, Option, Some, option_map, sym, subst}
-use Rattle.lit_print.specs.Counted.{device_of, failures_of}
+use Rattle.lit_report.specs.Counted.{device_of, failures_of}
 use Rattle.jslit.specs.ProgramAnswer.{IsAnswerBy, IsFaultBy}
 use Rattle.jslit.specs.RunAnswer.{HasServed}
 use Rattle.jslit.proofs.command.serve.Goals as goal

@@ -1,7 +1,7 @@
 use Rattle.std.proofs.Common.{sym, subst}
 use Rattle.std.specs.Io.KnownBytes.{Consumes}
 use Rattle.jslit.specs.InterleavingAnswer.{IsInterleavingOn, IsScheduleFaultOn}
-use Rattle.lit_print.specs.Counted.{device_of}
+use Rattle.lit_report.specs.Counted.{device_of}
 use Rattle.jslit.specs.Devices.{IsInputText}
 use Rattle.jslit.proofs.Running.{ran, unread}
 use Rattle.jslit.proofs.interleaving.run_schedule.Goals as goal

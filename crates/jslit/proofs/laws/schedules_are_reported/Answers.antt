@@ -2,7 +2,7 @@ use Rattle.std.proofs.Common.{◌≡◌, ◌∙◌, ap, subst, sym}
 use Rattle.lit_syntax.specs.Syntax.{Litmus}
 use Rattle.lit_search.specs.Reported.{IsReported}
 use Rattle.lit_interleave.specs.Interleaving.{interleaved}
-use Rattle.jslit.specs.ReportText.{interleaving_text}
+use Rattle.lit_report.specs.ReportText.{interleaving_text}
 use Rattle.jslit.specs.Schedule.{NamesAgents}
 use Rattle.jslit.proofs.laws.schedules_are_reported.Goals as goal
 

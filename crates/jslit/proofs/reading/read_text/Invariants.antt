@@ -1,7 +1,7 @@
 use Rattle.std.proofs.Common.{◌≡◌, ◌-◌, ◌≤◌, length}
 use Rattle.std.specs.Io.KnownBytes.{Consumes}
 use Rattle.jslit.specs.declared.reading.TheConstants.{READ_LIMIT}
-use Rattle.lit_print.specs.Counted.{device_of, failures_of}
+use Rattle.lit_report.specs.Counted.{device_of, failures_of}
 use Rattle.jslit.proofs.reading.read_text.Given as goal
 
 abbrev pub invariant-reading : goal.invariant-reading

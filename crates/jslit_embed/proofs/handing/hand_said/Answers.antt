@@ -1,5 +1,5 @@
 use Rattle.std.proofs.Common.{◌≢◌, ◌∙◌, ◌<◌, inl, inr, arith, ap}
-use Rattle.lit_print.specs.Counted.{failures_of}
+use Rattle.lit_report.specs.Counted.{failures_of}
 use Rattle.jslit_embed.proofs.Calls.{whole}
 use Rattle.jslit_embed.proofs.handing.hand_said.Goals as goal
 

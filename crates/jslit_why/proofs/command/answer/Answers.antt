@@ -1,5 +1,5 @@
 use Rattle.std.proofs.Common.{List, arith, inl, inr, subst, ℕ}
-use Rattle.lit_print.specs.Counted.{failures_of}
+use Rattle.lit_report.specs.Counted.{failures_of}
 use Rattle.lit_reason.specs.Explained.{HasOtherCondition}
 use Rattle.jslit_why.proofs.PrintedLemmas.{failed_status}
 use Rattle.jslit_why.specs.Printed.{HasBegun, HasRefused}

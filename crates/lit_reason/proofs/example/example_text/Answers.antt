@@ -1,6 +1,6 @@
 use Rattle.std.proofs.Common.{ℕ, List, arith, inl, inr, Some, ap, ◌∙◌}
 use Rattle.lit_valid.specs.Entry.{Entry}
-use Rattle.lit_print.specs.EntryText.{entry_text}
+use Rattle.lit_report.specs.EntryText.{entry_text}
 use Rattle.lit_reason.proofs.ExampleLemmas.{no_entry, told, written}
 use Rattle.lit_reason.proofs.example.example_text.Goals as goal
 

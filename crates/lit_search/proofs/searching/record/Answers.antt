@@ -6,7 +6,7 @@ pub loop-next-init : goal.loop-next-init
 loop-next-init g c = record {
   after = omega arith;
   inside = c.requires.order;
-  gains = gains_none c.args.plan.now (λ n. IsTrue (in_range c.args.from c.args.from n)) c.args.table.now c.args.mark (none_within c.args.from);
+  gains = gains_none c.args.plan.now (λ n. IsTrue (in_range c.args.from c.args.from n)) c.args.table.now c.args.raced (none_within c.args.from);
 }
 
 pub loop-next-preserved : goal.loop-next-preserved
@@ -20,7 +20,7 @@ loop-next-preserved g c =
     record {
       after = omega (arith, low, high);
       inside = omega (arith, c.min-end.ensures);
-      gains = gains_on t c.args.from c.loop-next.next end low high c.args.table.now c.loop-next.table c.record_on.new.table c.args.mark c.loop-next.race
+      gains = gains_on t c.args.from c.loop-next.next end low high c.args.table.now c.loop-next.table c.record_on.new.table c.args.raced c.loop-next.race
           c.in_ok-race.race c.loop-next.invariant.gains
           (subst (λ (p : Litmus × ℕ). Gains p.0 (λ n. IsTrue (in_range c.loop-next.next end n)) c.loop-next.table c.record_on.new.table c.loop-next.race c.in_ok-race.race)
           c.open-problem.ensures c.in_ok-race.ensures.gains);
@@ -28,5 +28,5 @@ loop-next-preserved g c =
 
 pub returns-clause-gains : goal.returns-clause-gains
 returns-clause-gains g c =
-    subst (λ (n : ℕ). Gains c.args.plan.now (λ m. IsTrue (in_range c.args.from n m)) c.args.table.now c.loop-next.table c.args.mark c.loop-next.race)
+    subst (λ (n : ℕ). Gains c.args.plan.now (λ m. IsTrue (in_range c.args.from n m)) c.args.table.now c.loop-next.table c.args.raced c.loop-next.race)
     (let e : c.loop-next.next ≡ c.args.to = omega (arith, c.loop-next.invariant.inside, c.loop-next-test.false) in e) c.loop-next.invariant.gains

@@ -5,7 +5,7 @@ abbrev pub invariant-loop-next : goal.invariant-loop-next
 invariant-loop-next g l = record {
   after : l.from ≤ l.next;
   inside : l.next ≤ l.to;
-  gains : Gains l.plan (λ n. IsTrue (in_range l.from l.next n)) l.fn.table l.table l.mark l.race;
+  gains : Gains l.plan (λ n. IsTrue (in_range l.from l.next n)) l.fn.table l.table l.raced l.race;
 }
 
 abbrev pub decreases-loop-next : goal.decreases-loop-next

@@ -18,21 +18,21 @@ added g c =
 pub returns-in_err-outcomes-clause-added : goal.returns-in_err-outcomes-clause-added
 returns-in_err-outcomes-clause-added g c = added g (goal.at.returns-in_err-outcomes-clause-added g c).After-outcomes
 
-pub returns-then-mark-clause-added : goal.returns-then-mark-clause-added
-returns-then-mark-clause-added g c = added g (goal.at.returns-then-mark-clause-added g c).After-outcomes
+pub returns-then-raced-clause-added : goal.returns-then-raced-clause-added
+returns-then-raced-clause-added g c = added g (goal.at.returns-then-raced-clause-added g c).After-outcomes
 
-pub returns-else-mark-clause-added : goal.returns-else-mark-clause-added
-returns-else-mark-clause-added g c = added g (goal.at.returns-else-mark-clause-added g c).After-outcomes
+pub returns-else-raced-clause-added : goal.returns-else-raced-clause-added
+returns-else-raced-clause-added g c = added g (goal.at.returns-else-raced-clause-added g c).After-outcomes
 
-pub returns-else-mark-clause-race : goal.returns-else-mark-clause-race
-returns-else-mark-clause-race g c =
+pub returns-else-raced-clause-race : goal.returns-else-raced-clause-race
+returns-else-raced-clause-race g c =
     let frame = box_of c.args.problem.now c.in-Some.frame in
     let prunes = c.in-Some.ensures.prunes in (
       (λ found.
           let solution = c.exists.ensures.0 found in
           inr (solution.0, solution_out frame (box_with c.args.problem.now c.args.domains.now) Race prunes.within solution.0 solution.1)),
       (λ either. c.exists.ensures.1 (elim either [
-        | inl mark ↦ absurd (false≢true (sym c.if-mark.false ∙ mark))
+        | inl raced ↦ absurd (false≢true (sym c.if-raced.false ∙ raced))
         | inr solution ↦ (solution.0, record { completes = prunes.retained solution.0 solution.1.completes; meets = solution.1.meets })
       ])),
     )

@@ -29,7 +29,7 @@ returns-in-Some-first_incoherent c =
     let is_list = rw c.combination-combination.ensures at c.byte_reads.ensures in
     let first = rw (c.events-events.ensures.value, c.combination-combination.ensures) at c.in-Some-first_incoherent.ensures in
     let both = first_incoherent_same part before (ReadsFrom events part.sources) c.happens_before-before.ensures.pairs (λ r w. ((λ h. h), (λ h. h))) c.byte_reads.result.now c.args.sources.now
-    is_list c.requires.sources found.place found.read found.byte found.source found.hidden_by first in
+    is_list c.requires.sources found.place found.read found.byte found.source found.cause first in
     (c.in_default.ensures, (λ e h. c.in_default-first_before_itself.ensures e ((c.happens_before-before.ensures.pairs e e).1 h)), both.0, both.1, both.2)
 
 pub returns-in-Some-first_torn : goal.returns-in-Some-first_torn

@@ -1,6 +1,6 @@
 use Rattle.std.proofs.Common.{Bool, OnOk, IsErrOf, sym, subst}
 use Rattle.jslit.specs.declared.fault.RunFault.TheVariants.{OutputFailed}
-use Rattle.lit_print.specs.Counted.{device_of}
+use Rattle.lit_report.specs.Counted.{device_of}
 use Rattle.jslit.specs.Internal.Answering.{HasWritten, HasWrittenSome}
 use Rattle.jslit.proofs.engine.alone.report_alone.Goals as goal
 

@@ -1,6 +1,6 @@
 use Rattle.std.proofs.Common.{false}
-use Rattle.lit_print.proofs.EntryFacts.{length-outcome}
-use Rattle.lit_pages.proofs.EntryFacts.{entry_in}
+use Rattle.lit_report.proofs.EntryFacts.{length-outcome}
+use Rattle.lit_report.proofs.ReportEntries.{entry_in}
 use Rattle.jslit.proofs.TestAnswers.{begun_for, report_is, written_for}
 use Rattle.jslit.proofs.engine.answering.report.Goals as goal
 

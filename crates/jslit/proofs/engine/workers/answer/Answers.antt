@@ -1,5 +1,5 @@
 use Rattle.std.proofs.Common.{◌≡◌}
-use Rattle.lit_print.specs.Counted.{device_of}
+use Rattle.lit_report.specs.Counted.{device_of}
 use Rattle.jslit.proofs.TestAnswers.{begun_on, reported_on}
 use Rattle.jslit.proofs.Refusals.{not_refused, unwritten_on, writing_of, writing_on}
 use Rattle.jslit.proofs.engine.workers.answer.Goals as goal

@@ -7,10 +7,10 @@ use Rattle.lit_solve.proofs.PruningLemmas.{source_known}
 use Rattle.lit_solve.proofs.SearchingLemmas.{left_less}
 use Rattle.lit_solve.proofs.ReadValuesLemmas.{adds_more_fillings, adds_one_filling, fillings_out, one_filling, value_of_last, values_more}
 use Rattle.lit_solve.proofs.problem.Problem.+add_fillings.Goals as goal
-use Rattle.lit_solve.proofs.problem.Problem.+add_fillings.Goals.{then-cut_independent+in_ok-add_fillings, else-cut_independent}
+use Rattle.lit_solve.proofs.problem.Problem.+add_fillings.Goals.{then-restrict_independent+in_ok-add_fillings, else-restrict_independent}
 
-pub share_of-share-requires : goal.share_of-share-requires
-share_of-share-requires t c =
+pub digits_of-share-requires : goal.digits_of-share-requires
+digits_of-share-requires t c =
     let some = c.least_filling-sources.ensures.completes in
     subst (AreSources (events_on c.args.self.now)) (some.2 ∙ sym c.as_slice.ensures.value)
     (sourced (box_with c.args.self.now c.args.domains.now) some.0 some.1)
@@ -18,20 +18,20 @@ share_of-share-requires t c =
 pub returns-in-One-clause-added : goal.returns-in-One-clause-added
 returns-in-One-clause-added t c =
     let box = box_with c.args.self.now c.args.domains.now in
-    adds_one_filling box c.args.read c.args.fillings.now.items c.push.new.self.items (record { value = c.in-One.value; share = c.share_of-share.result })
+    adds_one_filling box c.args.read c.args.fillings.now.items c.push.new.self.items (record { value = c.in-One.value; share = c.digits_of-share.result })
     (record {
       sources = c.as_slice.result.now;
       least = subst (IsLeastFilling box c.args.read c.in-One.value) (sym c.as_slice.ensures.value)
           (one_filling c.laws_below.ensures box c.requires.independent c.leaves_are_filled_read_by_read.ensures c.args.read
           c.least_filling-sources.result.items c.in-One.value c.least_filling-sources.ensures.completes c.least_filling-sources.ensures.least
           c.in-One.ensures);
-      share = c.share_of-share.ensures;
+      share = c.digits_of-share.ensures;
     }) c.in_ok-push-in-One.ensures.items
 
 pub returns-in-One-clause-whole : goal.returns-in-One-clause-whole
 returns-in-One-clause-whole t c x is =
     let box = box_with c.args.self.now c.args.domains.now in
-    value_of_last c.args.fillings.now.items c.push.new.self.items (record { value = c.in-One.value; share = c.share_of-share.result })
+    value_of_last c.args.fillings.now.items c.push.new.self.items (record { value = c.in-One.value; share = c.digits_of-share.result })
     (value_of (events_on c.args.self.now) x.sources c.args.read) c.in_ok-push-in-One.ensures.items
     (sym (c.in-One.ensures x.sources (sources_lie box x is)))
 
@@ -51,10 +51,10 @@ add_fillings-requires t c =
     let matching = same_stores_among box place c.in-Some.source (slice_index_or c.args.domains.now c.in-Open.place no_events) c.storing_same-group.result (λ w. (λ h. h, λ h. h))
     c.storing_same-group.ensures in
     let there = c.loop-source.invariant.within c.in-Some.source c.in-Some.ensures.there in (
-      subst (λ (n : ℕ). size_of c.cut_independent.new.domains < n) c.decreases
-          (c.cut_independent.ensures.less c.if-cut_independent.true
+      subst (λ (n : ℕ). size_of c.restrict_independent.new.domains < n) c.decreases
+          (c.restrict_independent.ensures.less c.if-restrict_independent.true
           (some_differ box place c.in-Some.source c.storing_same-group.result c.in-Open.ensures.0 c.in-Open.ensures.1 there matching)),
-      (c.requires.read, c.cut_independent.ensures.independent c.if-cut_independent.true),
+      (c.requires.read, c.restrict_independent.ensures.independent c.if-restrict_independent.true),
     )
 
 pub returns-in_err-add_fillings-clause-added : goal.returns-in_err-add_fillings-clause-added
@@ -65,8 +65,8 @@ returns-in_err-add_fillings-clause-added t c =
     c.storing_same-group.ensures in
     adds_more_fillings box c.args.read c.args.fillings.now.items c.loop-source.fillings.items c.add_fillings.new.fillings.items c.loop-source.invariant.added
     (fillings_out c.laws_below.ensures box c.requires.independent c.leaves_are_filled_read_by_read.ensures c.events-events.ensures.sound c.args.read place
-    c.in-Open.ensures.0 c.in-Open.ensures.2 c.in-Some.source c.storing_same-group.result matching c.cut_independent.new.domains
-    (c.cut_independent.ensures.cut c.if-cut_independent.true) (c.cut_independent.ensures.independent c.if-cut_independent.true)
+    c.in-Open.ensures.0 c.in-Open.ensures.2 c.in-Some.source c.storing_same-group.result matching c.restrict_independent.new.domains
+    (c.restrict_independent.ensures.restricted c.if-restrict_independent.true) (c.restrict_independent.ensures.independent c.if-restrict_independent.true)
     c.loop-source.fillings.items c.add_fillings.new.fillings.items c.add_fillings.ensures.added)
 
 pub loop-source-smaller : goal.loop-source-smaller
@@ -84,23 +84,23 @@ loop-source-preserved t c =
     let old = c.args.fillings.now.items in
     let mid = c.loop-source.fillings.items in
     let matching = same_stores_among box place c.in-Some.source (slice_index_or c.args.domains.now c.in-Open.place no_events) group (λ w. (λ h. h, λ h. h)) c.storing_same-group.ensures in
-    let goes : AddsFillings box c.args.read old c.if-cut_independent.fillings.items
-    × IsSeenBy (λ x. HasValue c.if-cut_independent.fillings.items (value_of (events_on c.args.self.now) x.sources c.args.read)) box place rest =
-    elim c.if-cut_independent.branch [
-      | then-cut_independent+in_ok-add_fillings w ↦
+    let goes : AddsFillings box c.args.read old c.if-restrict_independent.fillings.items
+    × IsSeenBy (λ x. HasValue c.if-restrict_independent.fillings.items (value_of (events_on c.args.self.now) x.sources c.args.read)) box place rest =
+    elim c.if-restrict_independent.branch [
+      | then-restrict_independent+in_ok-add_fillings w ↦
           subst (λ (fs : List Filling). AddsFillings box c.args.read old fs
           × IsSeenBy (λ x. HasValue fs (value_of (events_on c.args.self.now) x.sources c.args.read)) box place rest) (sym (ap (λ v. v.items) w.fillings-is))
           (values_more c.laws_below.ensures box c.requires.independent c.leaves_are_filled_read_by_read.ensures c.events-events.ensures.sound c.args.read
-          place c.in-Open.ensures.0 c.in-Open.ensures.2 c.in-Some.source group matching c.cut_independent.new.domains
-          (c.cut_independent.ensures.cut w.if-cut_independent.true) (c.cut_independent.ensures.independent w.if-cut_independent.true) old mid
+          place c.in-Open.ensures.0 c.in-Open.ensures.2 c.in-Some.source group matching c.restrict_independent.new.domains
+          (c.restrict_independent.ensures.restricted w.if-restrict_independent.true) (c.restrict_independent.ensures.independent w.if-restrict_independent.true) old mid
           w.add_fillings.new.fillings.items c.loop-source.left rest c.difference-left.ensures c.loop-source.invariant.added
           c.loop-source.invariant.seen w.add_fillings.ensures.added w.in_ok-add_fillings.ensures.whole)
-      | else-cut_independent w ↦
+      | else-restrict_independent w ↦
           subst (λ (fs : List Filling). AddsFillings box c.args.read old fs
           × IsSeenBy (λ x. HasValue fs (value_of (events_on c.args.self.now) x.sources c.args.read)) box place rest) (sym (ap (λ v. v.items) w.fillings-is)) (
             c.loop-source.invariant.added,
             seen_more (λ x. HasValue mid (value_of (events_on c.args.self.now) x.sources c.args.read)) box place c.in-Open.ensures.0 c.loop-source.left group
-                rest c.difference-left.ensures (λ x is takes. absurd (c.cut_independent.ensures.none w.if-cut_independent.false x is takes))
+                rest c.difference-left.ensures (λ x is takes. absurd (c.restrict_independent.ensures.none w.if-restrict_independent.false x is takes))
                 c.loop-source.invariant.seen,
           )
     ] in

@@ -3,7 +3,7 @@ use Rattle.lit_solve.proofs.FrameLemmas.{not_true}
 use Rattle.lit_solve.proofs.PruningLemmas.{source_known}
 use Rattle.lit_solve.proofs.SearchingLemmas.{left_less, left_over, not_all, solution_in, solution_out, takes_some}
 use Rattle.lit_solve.proofs.problem.Problem.+exists.Goals as goal
-use Rattle.lit_solve.proofs.problem.Problem.+exists.Goals.{else-cut-via-then-cut+else-exists, else-cut-via-else-cut}
+use Rattle.lit_solve.proofs.problem.Problem.+exists.Goals.{else-restrict-via-then-restrict+else-exists, else-restrict-via-else-restrict}
 
 pub part-part-requires-clause-known : goal.part-part-requires-clause-known
 part-part-requires-clause-known t c w there =
@@ -12,11 +12,11 @@ part-part-requires-clause-known t c w there =
 
 pub exists-requires : goal.exists-requires
 exists-requires t c = (
-  subst (λ (n : ℕ). size_of c.cut.new.frame.domains < n) c.decreases
-      (c.cut.ensures.less c.if-cut.true
+  subst (λ (n : ℕ). size_of c.restrict.new.frame.domains < n) c.decreases
+      (c.restrict.ensures.less c.if-restrict.true
       (not_all (box_of c.args.self.now c.args.frame.now) c.in-Branched.branch c.in-Branched.ensures c.in-Some.source
       (c.loop-source.invariant.within c.in-Some.source c.in-Some.ensures.there) c.part-part.result c.part-part.ensures.apart)),
-  c.cut.ensures.fixpoint c.if-cut.true,
+  c.restrict.ensures.fixpoint c.if-restrict.true,
 )
 
 pub returns-then-exists : goal.returns-then-exists
@@ -37,15 +37,15 @@ loop-source-preserved t c = record {
   where
     in_vain : (x : Execution) → IsSolution (box_of c.args.self.now c.args.frame.now) c.args.goal x → TakesFrom x c.in-Branched.branch.place c.part-part.result → ⊥
     in_vain x is takes =
-        elim c.else-cut.branch [
-          | else-cut-via-then-cut+else-exists w ↦
+        elim c.else-restrict.branch [
+          | else-restrict-via-then-restrict+else-exists w ↦
               not_true w.exists.result w.if-exists.false
               (w.exists.ensures.1 (
                 x,
-                solution_in (box_of c.args.self.now c.args.frame.now) (box_of c.args.self.now c.cut.new.frame) c.args.goal
-                    c.in-Branched.branch.place c.part-part.result (c.cut.ensures.cut w.if-cut.true) x is takes,
+                solution_in (box_of c.args.self.now c.args.frame.now) (box_of c.args.self.now c.restrict.new.frame) c.args.goal
+                    c.in-Branched.branch.place c.part-part.result (c.restrict.ensures.restricted w.if-restrict.true) x is takes,
               ))
-          | else-cut-via-else-cut w ↦ c.cut.ensures.none w.if-cut.false x is.completes takes
+          | else-restrict-via-else-restrict w ↦ c.restrict.ensures.none w.if-restrict.false x is.completes takes
         ]
 
 pub returns : goal.returns

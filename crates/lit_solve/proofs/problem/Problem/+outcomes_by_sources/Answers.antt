@@ -8,7 +8,7 @@ use Rattle.lit_solve.proofs.PruningLemmas.{source_known}
 use Rattle.lit_solve.proofs.SearchingLemmas.{left_less, not_all, solution_out}
 use Rattle.lit_solve.specs.declared.goal.Goal.TheVariants.{Any}
 use Rattle.lit_solve.proofs.problem.Problem.+outcomes_by_sources.Goals as goal
-use Rattle.lit_solve.proofs.problem.Problem.+outcomes_by_sources.Goals.{then-cut+in_ok-outcomes_by_sources, else-cut}
+use Rattle.lit_solve.proofs.problem.Problem.+outcomes_by_sources.Goals.{then-restrict+in_ok-outcomes_by_sources, else-restrict}
 
 pub next_branch-requires-clause-undecided : goal.next_branch-requires-clause-undecided
 next_branch-requires-clause-undecided g t c =
@@ -22,8 +22,8 @@ part-part-requires-clause-known g t c w there =
 pub outcomes_by_sources-requires : goal.outcomes_by_sources-requires
 outcomes_by_sources-requires g t c κs within =
     let box = box_of c.args.self.now c.args.frame.now in (
-      subst (λ (n : ℕ). size_of c.cut.new.frame.domains < n) c.decreases
-          (c.cut.ensures.less c.if-cut.true
+      subst (λ (n : ℕ). size_of c.restrict.new.frame.domains < n) c.decreases
+          (c.restrict.ensures.less c.if-restrict.true
           (not_all box c.in-Some.branch c.in-Some.ensures.branch c.in-Some-split_first.source
           (c.loop-source.invariant.within c.in-Some-split_first.source c.in-Some-split_first.ensures.there) c.part-part.result
           c.part-part.ensures.apart)),
@@ -34,9 +34,9 @@ outcomes_by_sources-requires g t c κs within =
           (
             c.requires.root,
             (
-              c.cut.ensures.fixpoint c.if-cut.true,
-              within_on (box_of c.args.self.now c.cut.new.frame) box (box_of c.args.self.now c.args.root.now)
-                  (c.cut.ensures.cut c.if-cut.true).within c.requires.within,
+              c.restrict.ensures.fixpoint c.if-restrict.true,
+              within_on (box_of c.args.self.now c.restrict.new.frame) box (box_of c.args.self.now c.args.root.now)
+                  (c.restrict.ensures.restricted c.if-restrict.true).within c.requires.within,
             ),
           ),
         ),
@@ -59,17 +59,17 @@ loop-source-preserved g t c =
     let old = entries c.args.table.now in
     let mid = entries c.loop-source.table in
     let was = c.loop-source.invariant in
-    let goes : AddsEntries root old (entries c.if-cut.table) × IsSeen box place (entries c.if-cut.table) rest = elim c.if-cut.branch [
-      | then-cut+in_ok-outcomes_by_sources w ↦
+    let goes : AddsEntries root old (entries c.if-restrict.table) × IsSeen box place (entries c.if-restrict.table) rest = elim c.if-restrict.branch [
+      | then-restrict+in_ok-outcomes_by_sources w ↦
           subst (λ (es : List Entry). AddsEntries root old es × IsSeen box place es rest) (sym (ap entries w.table-is))
           (seen_next root box place inside old mid (entries w.outcomes_by_sources.new.table) c.loop-source.left c.part-part.result rest
-          c.difference-left.ensures c.cut.new.frame.domains (c.cut.ensures.cut w.if-cut.true) was.added was.seen
+          c.difference-left.ensures c.restrict.new.frame.domains (c.restrict.ensures.restricted w.if-restrict.true) was.added was.seen
           w.outcomes_by_sources.ensures.added w.in_ok-outcomes_by_sources.ensures.whole)
-      | else-cut w ↦
+      | else-restrict w ↦
           subst (λ (es : List Entry). AddsEntries root old es × IsSeen box place es rest) (sym (ap entries w.table-is)) (
             was.added,
             seen_more (λ x. HasOutcome mid (execution_outcome c.args.self.now.0 x)) box place inside c.loop-source.left c.part-part.result
-                rest c.difference-left.ensures (λ x is takes. absurd (c.cut.ensures.none w.if-cut.false x is takes)) was.seen,
+                rest c.difference-left.ensures (λ x is takes. absurd (c.restrict.ensures.none w.if-restrict.false x is takes)) was.seen,
           )
     ] in
     record {

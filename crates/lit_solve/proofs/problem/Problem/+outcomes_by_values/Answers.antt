@@ -5,7 +5,7 @@ use Rattle.lit_solve.proofs.PruningLemmas.{source_known}
 use Rattle.lit_solve.proofs.SearchingLemmas.{left_less}
 use Rattle.lit_solve.proofs.ObservedLemmas.{IsSeen, same_stores_among, all_seen, first_within, part_adds, seen_part, seen_past, some_differ}
 use Rattle.lit_solve.proofs.problem.Problem.+outcomes_by_values.Goals as goal
-use Rattle.lit_solve.proofs.problem.Problem.+outcomes_by_values.Goals.{then-cut+then-may_complete+in_ok-end+in-Some-end, else-cut, else-cut-via-then-cut+else-may_complete, else-cut-via-else-cut}
+use Rattle.lit_solve.proofs.problem.Problem.+outcomes_by_values.Goals.{then-restrict+then-may_complete+in_ok-end+in-Some-end, else-restrict, else-restrict-via-then-restrict+else-may_complete, else-restrict-via-else-restrict}
 
 pub loop-source-init : goal.loop-source-init
 loop-source-init g t c = record {
@@ -31,16 +31,16 @@ outcomes_by_values-requires g t c κs within =
     let matching = same_stores_among box place c.in-Some-split_first.source c.sources_left-all.result c.storing_same-group.result c.sources_left-all.ensures
     c.storing_same-group.ensures in
     let there = c.loop-source.invariant.within c.in-Some-split_first.source c.in-Some-split_first.ensures.there in (
-      subst (λ (n : ℕ). size_of c.cut.new.frame.domains < n) c.decreases
-          (c.cut.ensures.less c.if-cut.true
+      subst (λ (n : ℕ). size_of c.restrict.new.frame.domains < n) c.decreases
+          (c.restrict.ensures.less c.if-restrict.true
           (some_differ box place c.in-Some-split_first.source c.storing_same-group.result c.in-Some.ensures.observed.0 c.in-Some.ensures.observed.1 there matching)),
       (
         within.0,
         (
           within.1,
           (
-            c.cut.ensures.fixpoint c.if-cut.true,
-            first_within box c.cut.new.frame.domains c.next_observed.new.values.items (c.cut.ensures.cut c.if-cut.true).within
+            c.restrict.ensures.fixpoint c.if-restrict.true,
+            first_within box c.restrict.new.frame.domains c.next_observed.new.values.items (c.restrict.ensures.restricted c.if-restrict.true).within
                 c.next_observed.ensures.first,
           ),
         ),
@@ -59,7 +59,7 @@ returns-in_err-end-clause-added g t c =
     adds_more box old mid new c.loop-source.invariant.added
     (part_adds c.laws_below.ensures box c.requires.fixpoint.exact.contained.is_box c.events-events.ensures.sound place
     c.in-Some.ensures.observed.0 c.in-Some.ensures.observed.2 c.in-Some-split_first.source c.storing_same-group.result matching
-    c.cut.new.frame.domains (c.cut.ensures.cut c.if-cut.true) mid new c.outcomes_by_values.ensures.added)
+    c.restrict.new.frame.domains (c.restrict.ensures.restricted c.if-restrict.true) mid new c.outcomes_by_values.ensures.added)
 
 pub returns-in_default-end-clause-added : goal.returns-in_default-end-clause-added
 returns-in_default-end-clause-added g t c =
@@ -73,7 +73,7 @@ returns-in_default-end-clause-added g t c =
     adds_more box old mid new c.loop-source.invariant.added
     (part_adds c.laws_below.ensures box c.requires.fixpoint.exact.contained.is_box c.events-events.ensures.sound place
     c.in-Some.ensures.observed.0 c.in-Some.ensures.observed.2 c.in-Some-split_first.source c.storing_same-group.result matching
-    c.cut.new.frame.domains (c.cut.ensures.cut c.if-cut.true) mid new c.outcomes_by_values.ensures.added)
+    c.restrict.new.frame.domains (c.restrict.ensures.restricted c.if-restrict.true) mid new c.outcomes_by_values.ensures.added)
 
 pub loop-source-smaller : goal.loop-source-smaller
 loop-source-smaller g t c =
@@ -95,19 +95,19 @@ loop-source-preserved g t c =
     let past = λ (none : (x : Execution) → IsCompletion box x → ¬ TakesFrom x place group).
     seen_past box place old mid c.loop-source.left group rest c.difference-left.ensures c.in-Some.ensures.observed.0
     c.loop-source.invariant.added c.loop-source.invariant.seen none in
-    let goes : AddsEntries box old (entries c.if-cut.table) × IsSeen box place (entries c.if-cut.table) rest = elim c.if-cut.branch [
-      | then-cut+then-may_complete+in_ok-end+in-Some-end w ↦
+    let goes : AddsEntries box old (entries c.if-restrict.table) × IsSeen box place (entries c.if-restrict.table) rest = elim c.if-restrict.branch [
+      | then-restrict+then-may_complete+in_ok-end+in-Some-end w ↦
           subst (λ (es : List Entry). AddsEntries box old es × IsSeen box place es rest) (sym (ap entries w.table-is))
           (seen_part c.laws_below.ensures box c.requires.fixpoint.exact.contained.is_box c.events-events.ensures.sound place
-          c.in-Some.ensures.observed.0 c.in-Some.ensures.observed.2 c.in-Some-split_first.source group matching c.cut.new.frame.domains
-          (c.cut.ensures.cut w.if-cut.true) old mid (entries w.outcomes_by_values.new.table) c.loop-source.left rest c.difference-left.ensures
+          c.in-Some.ensures.observed.0 c.in-Some.ensures.observed.2 c.in-Some-split_first.source group matching c.restrict.new.frame.domains
+          (c.restrict.ensures.restricted w.if-restrict.true) old mid (entries w.outcomes_by_values.new.table) c.loop-source.left rest c.difference-left.ensures
           c.loop-source.invariant.added c.loop-source.invariant.seen w.outcomes_by_values.ensures.added (w.in_ok-end.ensures.whole (ap is_some w.in-Some-end.is)))
-      | else-cut w ↦
+      | else-restrict w ↦
           subst (λ (es : List Entry). AddsEntries box old es × IsSeen box place es rest) (sym (ap entries w.table-is))
-          (past (elim w.else-cut.branch [
-            | else-cut-via-then-cut+else-may_complete v ↦
-                (λ x is takes. v.may_complete.ensures v.if-may_complete.false x ((c.cut.ensures.cut v.if-cut.true).retained x is takes))
-            | else-cut-via-else-cut v ↦ c.cut.ensures.none v.if-cut.false
+          (past (elim w.else-restrict.branch [
+            | else-restrict-via-then-restrict+else-may_complete v ↦
+                (λ x is takes. v.may_complete.ensures v.if-may_complete.false x ((c.restrict.ensures.restricted v.if-restrict.true).retained x is takes))
+            | else-restrict-via-else-restrict v ↦ c.restrict.ensures.none v.if-restrict.false
           ]))
     ] in
     record {

@@ -52,40 +52,40 @@ pub record_alike-requires : goal.record_alike-requires
 record_alike-requires g t c κs within =
     let x = c.requires.completes in
     let box = box_of c.args.self.now c.args.frame.now in
-    let cut = c.cut.ensures.cut c.if-cut.true in
+    let restricted = c.restrict.ensures.restricted c.if-restrict.true in
     let group = (goal.at.record_alike-requires g t c).After-storing_same-group in (
-      subst (λ (n : ℕ). size_of c.cut.new.frame.domains < n) c.decreases
-          (c.cut.ensures.less c.if-cut.true
+      subst (λ (n : ℕ). size_of c.restrict.new.frame.domains < n) c.decreases
+          (c.restrict.ensures.less c.if-restrict.true
           (some_differ box c.in-Some.place c.from.result c.storing_same-group.result c.in-Some.ensures.observed.0
           c.in-Some.ensures.observed.1 (source_there g t (goal.at.record_alike-requires g t c).After-from) (matching g t group))),
       (
         within,
         (
-          c.cut.ensures.fixpoint c.if-cut.true,
+          c.restrict.ensures.fixpoint c.if-restrict.true,
           (
-            first_within box c.cut.new.frame.domains c.observe.new.values.items cut.within c.observe.ensures.first,
-            (x.0, cut.retained x.0 x.1 (takes_group g t group x.0 x.1 x.2), x.2),
+            first_within box c.restrict.new.frame.domains c.observe.new.values.items restricted.within c.observe.ensures.first,
+            (x.0, restricted.retained x.0 x.1 (takes_group g t group x.0 x.1 x.2), x.2),
           ),
         ),
       ),
     )
 
-pub returns-then-cut-clause-added : goal.returns-then-cut-clause-added
-returns-then-cut-clause-added g t c =
-    let group = (goal.at.returns-then-cut-clause-added g t c).After-storing_same-group in
+pub returns-then-restrict-clause-added : goal.returns-then-restrict-clause-added
+returns-then-restrict-clause-added g t c =
+    let group = (goal.at.returns-then-restrict-clause-added g t c).After-storing_same-group in
     part_adds c.laws_below.ensures (box_of c.args.self.now c.args.frame.now) c.requires.fixpoint.exact.contained.is_box
     c.events-events.ensures.sound c.in-Some.place c.in-Some.ensures.observed.0 c.in-Some.ensures.observed.2 c.from.result
-    c.storing_same-group.result (matching g t group) c.cut.new.frame.domains (c.cut.ensures.cut c.if-cut.true)
+    c.storing_same-group.result (matching g t group) c.restrict.new.frame.domains (c.restrict.ensures.restricted c.if-restrict.true)
     (g.T.OutcomeTable.entries c.args.table.now) (g.T.OutcomeTable.entries c.record_alike.new.table) c.record_alike.ensures.added
 
-pub returns-then-cut-clause-has : goal.returns-then-cut-clause-has
-returns-then-cut-clause-has g t c =
-    let group = (goal.at.returns-then-cut-clause-has g t c).After-storing_same-group in
+pub returns-then-restrict-clause-has : goal.returns-then-restrict-clause-has
+returns-then-restrict-clause-has g t c =
+    let group = (goal.at.returns-then-restrict-clause-has g t c).After-storing_same-group in
     on_ok_weaker c.record_alike.result
-    (λ has x is same. has x ((c.cut.ensures.cut c.if-cut.true).retained x is (takes_group g t group x is same)) same)
+    (λ has x is same. has x ((c.restrict.ensures.restricted c.if-restrict.true).retained x is (takes_group g t group x is same)) same)
     c.record_alike.ensures.has
 
 pub returns-clause-has : goal.returns-clause-has
 returns-clause-has g t c x is same =
     let group = (goal.at.returns-clause-has g t c).After-storing_same-group in
-    absurd (c.cut.ensures.none c.if-cut.false x is (takes_group g t group x is same))
+    absurd (c.restrict.ensures.none c.if-restrict.false x is (takes_group g t group x is same))

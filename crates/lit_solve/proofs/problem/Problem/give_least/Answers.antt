@@ -1,6 +1,6 @@
 use Rattle.lit_solve.proofs.Words.{Any, arith, Box, box_with, EventSet, HasLeastOrderIn, IsIndependent, IsLowestAt, List, Litmus}
 use Rattle.lit_solve.proofs.Words.{split_less, subst, sym, ℕ, ◌≡◌}
-use Rattle.lit_solve.proofs.DescendingLemmas.{cut_alone, lowest_at}
+use Rattle.lit_solve.proofs.DescendingLemmas.{restricted_alone, lowest_at}
 use Rattle.lit_solve.proofs.IndependentLemmas.{independent_solution}
 use Rattle.lit_solve.proofs.PruningLemmas.{source_known}
 use Rattle.lit_solve.proofs.SearchingLemmas.{takes_some}
@@ -17,22 +17,22 @@ set_of-requires c =
     c.requires.place (c.loop-source.invariant.within c.in-Some-split_first.source c.in-Some-split_first.ensures.there) in
     omega arith
 
-pub returns-then-cut_independent : goal.returns-then-cut_independent
-returns-then-cut_independent c =
+pub returns-then-restrict_independent : goal.returns-then-restrict_independent
+returns-then-restrict_independent c =
     let old : Box = box_with c.args.self.now c.loop-source.domains in
-    let new : Box = box_with c.args.self.now c.cut_independent.new.domains in
+    let new : Box = box_with c.args.self.now c.restrict_independent.new.domains in
     let source = c.in-Some-split_first.source in
-    let cut = c.cut_independent.ensures.cut c.if-cut_independent.true in
-    let independent = c.cut_independent.ensures.independent c.if-cut_independent.true in
-    let alone = cut_alone old new c.args.place source c.set_of.result (λ w. (c.set_of.ensures w).0) cut c.requires.place independent.some in
+    let restricted = c.restrict_independent.ensures.restricted c.if-restrict_independent.true in
+    let independent = c.restrict_independent.ensures.independent c.if-restrict_independent.true in
+    let alone = restricted_alone old new c.args.place source c.set_of.result (λ w. (c.set_of.ensures w).0) restricted c.requires.place independent.some in
     record {
       independent = independent;
-      order = λ order least. c.cut_independent.ensures.order c.if-cut_independent.true order
+      order = λ order least. c.restrict_independent.ensures.order c.if-restrict_independent.true order
           (subst (λ (ds : List EventSet). HasLeastOrderIn (box_with c.args.self.now ds) order) (sym c.loop-source.invariant.same) least);
       alone = (source, alone);
       lowest = subst (λ (ds : List EventSet). IsLowestAt (box_with c.args.self.now ds) Any c.args.place new) c.loop-source.invariant.same
           (lowest_at old new Any c.args.place c.requires.place c.loop-source.left c.in-Some-split_first.others c.set_of.result source
-          c.in-Some-split_first.ensures c.loop-source.invariant.taken c.set_of.ensures cut alone);
+          c.in-Some-split_first.ensures c.loop-source.invariant.taken c.set_of.ensures restricted alone);
     }
 
 pub loop-source-smaller : goal.loop-source-smaller

@@ -1,11 +1,11 @@
-use Rattle.lit_solve.proofs.Words.{◌∙◌, ◌≡◌, arith, Box, box_of, Execution, Frame, HasAlone, HasEvent, IsCompletion, IsCut}
+use Rattle.lit_solve.proofs.Words.{◌∙◌, ◌≡◌, arith, Box, box_of, Execution, Frame, HasAlone, HasEvent, IsCompletion, IsRestricted}
 use Rattle.lit_solve.proofs.Words.{IsFixpoint, IsSolution, refl, slice_get, Some, split_less, subst, sym, ℕ}
-use Rattle.lit_solve.proofs.DescendingLemmas.{cut_alone, lowest_at}
+use Rattle.lit_solve.proofs.DescendingLemmas.{restricted_alone, lowest_at}
 use Rattle.lit_solve.proofs.FrameLemmas.{not_true}
 use Rattle.lit_solve.proofs.PruningLemmas.{source_known}
 use Rattle.lit_solve.proofs.SearchingLemmas.{solution_in, takes_some}
 use Rattle.lit_solve.proofs.problem.Problem.take_least.Goals as goal
-use Rattle.lit_solve.proofs.problem.Problem.take_least.Goals.{Then-cut, else-cut-via-then-cut+else-is_promising, else-cut-via-else-cut}
+use Rattle.lit_solve.proofs.problem.Problem.take_least.Goals.{Then-restrict, else-restrict-via-then-restrict+else-is_promising, else-restrict-via-else-restrict}
 
 pub set_of-requires : goal.set_of-requires
 set_of-requires c =
@@ -13,28 +13,28 @@ set_of-requires c =
     c.requires.place (c.loop-source.invariant.within c.in-Some.source c.in-Some.ensures.there) in
     omega arith
 
-pub cut-requires-clause-fixpoint : goal.cut-requires-clause-fixpoint
-cut-requires-clause-fixpoint c = subst (λ (f : Frame). IsFixpoint (box_of c.args.self.now f) f) (sym c.loop-source.invariant.same) c.requires.fixpoint
+pub restrict-requires-clause-fixpoint : goal.restrict-requires-clause-fixpoint
+restrict-requires-clause-fixpoint c = subst (λ (f : Frame). IsFixpoint (box_of c.args.self.now f) f) (sym c.loop-source.invariant.same) c.requires.fixpoint
 
--- the cut of the frame as it was
-cut_of : (c : Then-cut) → IsCut (box_of c.args.self.now c.args.frame.now) c.args.place c.set_of.result (box_of c.args.self.now c.cut.new.frame)
-cut_of c =
-    subst (λ (f : Frame). IsCut (box_of c.args.self.now f) c.args.place c.set_of.result (box_of c.args.self.now c.cut.new.frame))
-    c.loop-source.invariant.same (c.cut.ensures.cut c.if-cut.true)
+-- the restriction of the frame as it was
+restricted_of : (c : Then-cut) → IsRestricted (box_of c.args.self.now c.args.frame.now) c.args.place c.set_of.result (box_of c.args.self.now c.restrict.new.frame)
+restricted_of c =
+    subst (λ (f : Frame). IsRestricted (box_of c.args.self.now f) c.args.place c.set_of.result (box_of c.args.self.now c.restrict.new.frame))
+    c.loop-source.invariant.same (c.restrict.ensures.restricted c.if-restrict.true)
 
-alone_of : (c : Then-cut) → HasAlone (box_of c.args.self.now c.cut.new.frame) c.args.place c.in-Some.source
+alone_of : (c : Then-cut) → HasAlone (box_of c.args.self.now c.restrict.new.frame) c.args.place c.in-Some.source
 alone_of c =
-    cut_alone (box_of c.args.self.now c.args.frame.now) (box_of c.args.self.now c.cut.new.frame) c.args.place c.in-Some.source c.set_of.result
-    (λ w. (c.set_of.ensures w).0) (cut_of c) c.requires.place (c.cut.ensures.fixpoint c.if-cut.true).exact.contained.some
+    restricted_alone (box_of c.args.self.now c.args.frame.now) (box_of c.args.self.now c.restrict.new.frame) c.args.place c.in-Some.source c.set_of.result
+    (λ w. (c.set_of.ensures w).0) (restricted_of c) c.requires.place (c.restrict.ensures.fixpoint c.if-restrict.true).exact.contained.some
 
 pub returns-then-is_promising-clause-alone : goal.returns-then-is_promising-clause-alone
 returns-then-is_promising-clause-alone c _ = (c.in-Some.source, alone_of (goal.at.returns-then-is_promising-clause-alone c).Then-cut)
 
 pub returns-then-is_promising-clause-lowest : goal.returns-then-is_promising-clause-lowest
 returns-then-is_promising-clause-lowest c _ =
-    let at = (goal.at.returns-then-is_promising-clause-lowest c).Then-cut in
-    lowest_at (box_of c.args.self.now c.args.frame.now) (box_of c.args.self.now c.cut.new.frame) c.args.goal c.args.place c.requires.place
-    c.loop-source.left c.in-Some.others c.set_of.result c.in-Some.source c.in-Some.ensures c.loop-source.invariant.taken c.set_of.ensures (cut_of at)
+    let at = (goal.at.returns-then-is_promising-clause-lowest c).Then-restrict in
+    lowest_at (box_of c.args.self.now c.args.frame.now) (box_of c.args.self.now c.restrict.new.frame) c.args.goal c.args.place c.requires.place
+    c.loop-source.left c.in-Some.others c.set_of.result c.in-Some.source c.in-Some.ensures c.loop-source.invariant.taken c.set_of.ensures (restricted_of at)
     (alone_of at)
 
 pub loop-source-smaller : goal.loop-source-smaller
@@ -51,19 +51,19 @@ loop-source-preserved c = record {
         → slice_get x.sources c.args.place ≡ Some w → w ≡ c.in-Some.source → ⊥
     in_vain x is w at same =
         let old : Box = box_of c.args.self.now c.args.frame.now in
-        let new : Box = box_of c.args.self.now c.cut.new.frame in
+        let new : Box = box_of c.args.self.now c.restrict.new.frame in
         let takes : (v : ℕ) → slice_get x.sources c.args.place ≡ Some v → HasEvent c.set_of.result v = λ v at_too.
         (c.set_of.ensures v).1 ((let e : Some v ≡ Some w = sym at_too ∙ at in let f : v ≡ w = cc in f) ∙ same) in
-        elim c.else-cut.branch [
-          | else-cut-via-then-cut+else-is_promising s ↦
+        elim c.else-restrict.branch [
+          | else-restrict-via-then-restrict+else-is_promising s ↦
               s.is_promising.ensures.none (not_true s.is_promising.result s.if-is_promising.false) (
                 x,
                 solution_in old new c.args.goal c.args.place c.set_of.result
-                    (subst (λ (f : Frame). IsCut (box_of c.args.self.now f) c.args.place c.set_of.result new) c.loop-source.invariant.same
-                    (c.cut.ensures.cut s.if-cut.true)) x is takes,
+                    (subst (λ (f : Frame). IsRestricted (box_of c.args.self.now f) c.args.place c.set_of.result new) c.loop-source.invariant.same
+                    (c.restrict.ensures.restricted s.if-restrict.true)) x is takes,
               )
-          | else-cut-via-else-cut s ↦
-              c.cut.ensures.none s.if-cut.false x
+          | else-restrict-via-else-restrict s ↦
+              c.restrict.ensures.none s.if-restrict.false x
               (subst (λ (f : Frame). IsCompletion (box_of c.args.self.now f) x) (sym c.loop-source.invariant.same) is.completes) takes
         ]
 

@@ -1,6 +1,0 @@
-use Rattle.std.proofs.Common.{append_assoc}
-use Rattle.lit_print.proofs.Putting.{HasPut-then, HasPut-is}
-use Rattle.jslit.proofs.report.report_writer.put_head.Goals as goal
-
-pub returns : goal.returns
-returns g c = HasPut-is _ _ _ _ (HasPut-then _ _ _ _ _ (HasPut-then _ _ _ _ _ c.put.ensures c.put-2.ensures) c.put_byte.ensures) (rw (c.as_bytes.ensures.value, c.name.ensures) (simp append_assoc))

@@ -1,2 +1,0 @@
-pub mod EntryFacts
-pub mod PageTexts

@@ -1,2 +1,0 @@
--- Notions of the contracts of private functions.
-pub mod Pages

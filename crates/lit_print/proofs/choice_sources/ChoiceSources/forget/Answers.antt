@@ -1,5 +1,0 @@
-use Rattle.lit_print.proofs.ChoiceNumbers.{holds_none}
-use Rattle.lit_print.proofs.choice_sources.ChoiceSources.forget.Goals as goal
-
-pub returns : goal.returns
-returns c t n = holds_none t n _ c.clear.ensures c.clear-2.ensures

@@ -1,5 +1,0 @@
-use Rattle.lit_print.proofs.Putting.{HasPut-then}
-use Rattle.lit_print.proofs.entry_cache.put_order.Goals as goal
-
-pub returns : goal.returns
-returns g c = HasPut-then _ _ _ _ _ (HasPut-then _ _ _ _ _ c.put.ensures c.put_events.ensures) c.put_byte.ensures

@@ -1,5 +1,0 @@
-use Rattle.lit_print.proofs.Putting.{HasPut-then}
-use Rattle.lit_print.proofs.events.put_source_head.Goals as goal
-
-pub returns : goal.returns
-returns g c = HasPut-then _ _ _ _ _ c.put.ensures c.put_event.ensures

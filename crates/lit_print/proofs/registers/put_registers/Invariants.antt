@@ -1,9 +1,0 @@
-use Rattle.std.proofs.Common.{drop}
-use Rattle.lit_print.specs.EntryText.{registers_text}
-use Rattle.lit_print.specs.Writing.{writing_of}
-use Rattle.lit_print.proofs.Putting.{PutsOf}
-use Rattle.lit_print.proofs.registers.put_registers.Given as goal
-
-abbrev pub invariant-loop-place : goal.invariant-loop-place
-invariant-loop-place g l =
-    PutsOf (writing_of g.W.Write.contents l.fn.output l.fn.buffer) (writing_of g.W.Write.contents l.output l.buffer) (registers_text l.test (drop l.place l.names) (drop l.place l.values)) (registers_text l.test l.names l.values)

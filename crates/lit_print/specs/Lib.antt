@@ -1,9 +1,0 @@
-pub mod Counted
-pub mod Writing
-pub mod ChoiceEvents
-pub mod EntryText
-pub mod ReadLine
-pub mod CachedText
-pub mod CachedLines
-pub mod ChoiceSources
-pub mod EntryCache

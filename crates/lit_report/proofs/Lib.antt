@@ -1,0 +1,12 @@
+pub mod ChoiceNumbers
+pub mod Written
+pub mod Putting
+pub mod SourceLines
+pub mod RegisterLemmas
+pub mod ChosenEvents
+pub mod EntryFacts
+pub mod Lines
+pub mod ReportEntries
+pub mod PageTexts
+pub mod ReportLines
+pub mod Judging

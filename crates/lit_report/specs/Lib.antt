@@ -1,0 +1,13 @@
+pub mod Counted
+pub mod Writing
+pub mod ChoiceEvents
+pub mod EntryText
+pub mod ReadLine
+pub mod CachedText
+pub mod CachedLines
+pub mod ChoiceSources
+pub mod EntryCache
+pub mod Verdict
+pub mod ReportText
+pub mod RefusalText
+pub mod Internal

@@ -1,5 +1,0 @@
-use Rattle.lit_desk.specs.Desk.{IsPlaceOf}
-use Rattle.lit_tests.proofs.desk.threads.Caller.work.Given as goal
-
-abbrev pub invariant-loop : goal.invariant-loop
-invariant-loop l = IsPlaceOf l.desk l.self.place
