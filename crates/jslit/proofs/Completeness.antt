@@ -5,7 +5,8 @@ use Rattle.std.proofs.lemmas.Bool.Decides.{nat_tests}
 use Rattle.std.proofs.lemmas.List.{length-map, get_or-map}
 use Rattle.std.proofs.lemmas.Option.{slice_get_within, get_or_from_slice_get}
 use Rattle.lit_syntax.specs.Syntax.{Litmus}
-use Rattle.lit_paths.specs.Choice.{IsChoice, ListsChoices, choices_of}
+use Rattle.lit_paths.specs.Choice.{choices_of}
+use Rattle.lit_paths.specs.Members.{IsChoice, ListsChoices}
 use Rattle.lit_search.specs.Report.{Entry, Report, IsReport, in_range}
 use Rattle.lit_paths.specs.Execution.{Execution, execution_choice, execution_outcome, IsCandidateExecution}
 use Rattle.jslit.specs.Answer.{IsComplete}

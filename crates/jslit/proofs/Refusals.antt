@@ -1,13 +1,14 @@
 -- What is said of the faults of a run.
-use Rattle.std.proofs.Common.{◌≢◌, ◌+◌, ◌≤◌, ℕ, List, [], length, arith, take, Option, Some, None, OnErr, IfErr, IsErrOf, Ok, Err, refl}
+use Rattle.std.proofs.Common.{◌≢◌, ◌+◌, ◌≤◌, ℕ, List, [], length, arith, take, Option, Some, None, OnErr, IfErr, IsErrOf, Ok, Err, refl, subst}
 use Rattle.std.specs.declared.result.Result.{Result}
 use Rattle.lit_syntax.specs.Syntax.{Litmus}
 use Rattle.lit_syntax.specs.declared.limits.TheConstants.{TEXT_LIMIT}
 use Rattle.lit_paths.specs.declared.fault.PlanFault.{PlanFault}
 use Rattle.lit_paths.specs.declared.fault.PlanFault.TheVariants as plan_faults
-use Rattle.lit_paths.specs.Plan as plan
+use Rattle.lit_paths.specs.Path.{Path}
+use Rattle.lit_paths.specs.Refusal as plan
 use Rattle.lit_paths.specs.Choice.{choices_of, combinations_of}
-use Rattle.lit_paths.specs.declared.limits.TheConstants.{CHOICE_LIMIT, COMBINATION_LIMIT}
+use Rattle.lit_paths.specs.declared.limits.TheConstants.{ACCESS_LIMIT, CHOICE_LIMIT, COMBINATION_LIMIT}
 use Rattle.jslit.specs.declared.fault.RunFault.{RunFault}
 use Rattle.jslit.specs.declared.fault.RunFault.TheVariants as faults
 use Rattle.jslit.specs.Answer.{IsFaultOn}
@@ -16,7 +17,8 @@ use Rattle.jslit.specs.Internal.Answering.{IsOfTextOrWriting, IsOfWriting}
 
 -- a test within the limits is refused for none of them
 pub not_refused : (t : Litmus) → plan.HasFewEvents t → length (combinations_of t) ≤ COMBINATION_LIMIT → length (choices_of t) ≤ CHOICE_LIMIT → (fault : PlanFault) → ¬ plan.IsRefusal t fault
-not_refused t few_events few_paths few_choices plan_faults.TooManyEvents (paths, combined, many) = absurd (omega (arith, few_events paths combined, many))
+not_refused t few_events few_paths few_choices plan_faults.TooManyEvents (c, paths, inside, at, many) =
+    absurd (omega (arith, subst (λ (ps : List Path). length (plan.accesses_on ps) ≤ ACCESS_LIMIT) at (few_events c paths inside), many))
 not_refused t few_events few_paths few_choices plan_faults.TooManyPaths (few, many) = absurd (omega (arith, few_paths, many))
 not_refused t few_events few_paths few_choices plan_faults.TooManyChoices (few, fewer, many) = absurd (omega (arith, few_choices, many))
 not_refused t few_events few_paths few_choices plan_faults.OutOfMemory refused = refused

@@ -6,7 +6,7 @@ use Rattle.lit_read.specs.Faults.{IsFirstFault}
 use Rattle.lit_read.specs.Spelling.{Spells}
 use Rattle.lit_paths.specs.Choice.{choices_of}
 use Rattle.lit_paths.specs.declared.fault.PlanFault.{PlanFault}
-use Rattle.lit_paths.specs.Plan.{IsRefusal}
+use Rattle.lit_paths.specs.Refusal.{IsRefusal}
 use Rattle.lit_search.specs.Report.{Entry, Report, IsReport, in_range}
 use Rattle.lit_valid.specs.declared.class.Class.TheVariants.{Met, Unmet}
 use Rattle.lit_paths.specs.Execution.{Execution, execution_outcome}

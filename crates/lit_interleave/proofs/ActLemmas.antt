@@ -3,11 +3,12 @@ use Rattle.lit_interleave.proofs.Words.{◌&&◌, ◌+◌, ◌++◌, ◌==◌, [
 use Rattle.lit_interleave.proofs.Words.{compare_exchange_event, CompareExchange, CompareExchangeMet, composed, Contents, does_read}
 use Rattle.lit_interleave.proofs.Words.{does_write, drop, End, eq-eqb, Event, Exchange, ExchangeMet, false, from_access, If, IfMet}
 use Rattle.lit_interleave.proofs.Words.{if◌then◌else◌, inl, inr, is_access, IsStatementWalk, IsWalk, joined_statements, List, Load}
-use Rattle.lit_interleave.proofs.Words.{LoadMet, modify_event, no_event, None, number_in, Option, read_event, refl, Some, Statement}
-use Rattle.lit_interleave.proofs.Words.{Statements, Step, Store, StoreMet, subst, sym, take, Then, true, with_number, write_event, ℕ, ◌∙◌}
+use Rattle.lit_interleave.proofs.Words.{LoadMet, no_event, None, number_in, Option, refl, Some, Statement, access_event}
+use Rattle.lit_interleave.proofs.Words.{Statements, Step, Store, StoreMet, subst, sym, take, Then, true, with_number, ℕ, ◌∙◌}
 use Rattle.lit_interleave.proofs.Words.{◌∷◌, ◌≡◌}
 use Rattle.lit_paths.specs.Path.{events_on}
 use Rattle.lit_interleave.proofs.NextAccess.{each_from}
+use Rattle.lit_paths.specs.declared.event.Kind.TheVariants.{Read, Write, Modify}
 
 -- ---- events on a block
 -- the number that an event finds in its range
@@ -30,9 +31,9 @@ found_in_turn agent block (e ∷ es) =
 
 -- ---- an access
 abbrev pub event_made : ℕ → ℕ → Statement → List ℕ → Event
-event_made owner place (Load reg window index atomic) block = read_event owner place window index atomic
-event_made owner place (Store window index value atomic) block = write_event owner place window index value atomic
-event_made owner place (Exchange reg window index value) block = modify_event owner place window index value
+event_made owner place (Load reg window index atomic) block = access_event Read owner place window index 0 atomic
+event_made owner place (Store window index value atomic) block = access_event Write owner place window index value atomic
+event_made owner place (Exchange reg window index value) block = access_event Modify owner place window index value true
 event_made owner place (CompareExchange reg window index expected value) block = compare_exchange_event owner place window index value (number_in block window index == expected)
 event_made owner place (If reg equal value body other) block = no_event
 

@@ -11,6 +11,8 @@ use Rattle.lit_interleave.proofs.Words.{replicate, Run, run_path, same_lists, sl
 use Rattle.lit_interleave.proofs.Words.{slice_get_right, slice_get_within, Some, subst, sym, take, take-append-le, take-map, take_all}
 use Rattle.lit_interleave.proofs.Words.{taken_each, taken_together, true, value_of, ℕ, ◌∙◌, ◌∷◌, ◌≡◌, ◌≤◌}
 use Rattle.lit_paths.specs.Path.{events_on}
+use Rattle.lit_paths.proofs.ChoiceLists.{sources_of-iff}
+use Rattle.lit_paths.proofs.PathLists.{walks_of-iff}
 use Rattle.lit_interleave.proofs.ActLemmas.{after_event, found_at, found_in_turn, is_owned_by, same_agent}
 use Rattle.lit_interleave.proofs.FutureLemmas.{Future, ending_agents, no_progress, own_events, interleaving_future}
 use Rattle.lit_interleave.proofs.MomentLemmas.{at_first}
@@ -63,11 +65,9 @@ module _ (t : Litmus) (schedule : List ℕ) (litmus : IsLitmus t) (future : Futu
       let c = future.course i in
       let same : events_on i 0 c.steps ≡ own_events i acts = sym c.own in
       record {
-        path = record {
-          steps = c.steps;
-          walked = walked i lt;
-          taken = ap (λ (es : List Event). record { decisions = decisions_on c.steps; events = es }) same;
-        };
+        steps = c.steps;
+        walked = (walks_of-iff (agent_of t i).body c.steps).1 (walked i lt);
+        taken = ap (λ (es : List Event). record { decisions = decisions_on c.steps; events = es }) same;
         agrees = subst (λ (p : Progress). AgreesWith c.steps p.registers (run_of i).values (progress_of (ending t schedule) i).registers)
             (begun i lt) c.agrees;
       }
@@ -186,7 +186,7 @@ module _ (t : Litmus) (schedule : List ℕ) (litmus : IsLitmus t) (future : Futu
   candidate of = record {
     one_each = all_runs;
     each = λ i run at. let w = which i run at in subst (IsRun i (agent_of t i).body) w.1 (is_run i w.0);
-    sourced = are_sources t.bytes events acts number in_time of;
+    sourced = (sources_of-iff events sources).1 (are_sources t.bytes events acts number in_time of);
   }
 
   pub one_order : AreOfEvents events → IsSequential events sources order

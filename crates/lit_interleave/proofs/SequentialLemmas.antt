@@ -4,6 +4,7 @@ use Rattle.lit_interleave.proofs.Words.{execution_events, HappensBefore, HasByte
 use Rattle.lit_interleave.proofs.Words.{HasValidChosenReads, inl, inr, IsAfterSource, IsBeforeRead, IsBetweenSynchronized}
 use Rattle.lit_interleave.proofs.Words.{IsCandidateExecution, IsListOfAll, IsMemoryOrder, IsSequential, IsValidExecution, length, List}
 use Rattle.lit_interleave.proofs.Words.{Litmus, ReadsByteFrom, same_Some, slice_get, StandsBefore, StepBy, sym, ℕ, ◌∙◌, ◌∷◌, ◌≡◌, ◌⊎◌}
+use Rattle.lit_paths.proofs.ChoiceLists.{execution-sources}
 
 -- ---- places in a list of all events
 module _ (n : ℕ) (order : List ℕ) (whole : IsListOfAll n order) where
@@ -95,13 +96,14 @@ pub valid_in_order : ((events : List Event) → AreOfEvents events) → (t : Lit
     → IsSequential (execution_events t x) x.sources order → IsValidExecution t x × IsMemoryOrder (execution_events t x) x.sources order
 valid_in_order of t x order candidate chosen is =
     let events = execution_events t x in
-    let is_memory_order : IsMemoryOrder events x.sources order = ordered events x.sources order candidate.sourced (of events) is in (
+    let sourced = execution-sources t x candidate in
+    let is_memory_order : IsMemoryOrder events x.sources order = ordered events x.sources order sourced (of events) is in (
       record {
         candidate = candidate;
-        no_cycle = no_cycle events x.sources order candidate.sourced (of events) is;
+        no_cycle = no_cycle events x.sources order sourced (of events) is;
         chosen_reads = chosen;
-        coherent_reads = coherent events x.sources order candidate.sourced (of events) is;
-        tear_free_reads = tear_free events x.sources order candidate.sourced (of events) is;
+        coherent_reads = coherent events x.sources order sourced (of events) is;
+        tear_free_reads = tear_free events x.sources order sourced (of events) is;
         ordered = (order, is_memory_order);
       },
       is_memory_order,

@@ -5,17 +5,19 @@ use Rattle.lit_interleave.proofs.Words.{Exchange, false, filter, flat_map, get_o
 use Rattle.lit_interleave.proofs.Words.{get_or-map-range_with_len, get_or-range_with_len, get_or_append_left, get_or_from_slice_get, If}
 use Rattle.lit_interleave.proofs.Words.{init_event, init_events, inl, inr, is_in_block, IsAgentOrdered, IsListOfAll, IsMadeBefore}
 use Rattle.lit_interleave.proofs.Words.{IsStatementIn, IsStatementWalk, IsTrue, IsWalk, length, length-append, length-flat_map-take}
-use Rattle.lit_interleave.proofs.Words.{length-init_events, length-range_with_len, List, Load, map, map-append, maps, modify_event}
-use Rattle.lit_interleave.proofs.Words.{nat_tests, no_event, None, none-some, Option, order-other, range_with_len, read_event, refl}
+use Rattle.lit_interleave.proofs.Words.{length-init_events, length-range_with_len, List, Load, map, map-append, maps, access_event}
+use Rattle.lit_interleave.proofs.Words.{nat_tests, no_event, None, none-some, Option, order-other, range_with_len, refl}
 use Rattle.lit_interleave.proofs.Words.{replicate, same_Some, slice_get, slice_get-get_or, slice_get-map-found, slice_get-map-known}
 use Rattle.lit_interleave.proofs.Words.{slice_get_left, slice_get_right, slice_get_within, Some, StandsBefore, Statement, Statements, Step}
-use Rattle.lit_interleave.proofs.Words.{Store, subst, suc, sym, take, Then, true, Window, window-in_block, write_event, zero, ℕ, ◌∙◌, ◌∷◌}
+use Rattle.lit_interleave.proofs.Words.{Store, subst, suc, sym, take, Then, true, Window, window-in_block, zero, ℕ, ◌∙◌, ◌∷◌}
 use Rattle.lit_interleave.proofs.Words.{◌≡◌, ◌≢◌, ◌≤◌, ◌⊎◌}
 use Rattle.lit_paths.specs.declared.event.Order3.TheVariants.{Init}
 use Rattle.lit_paths.specs.Path.{events_on}
 use Rattle.lit_interleave.proofs.MomentLemmas.{few_bytes}
 use Rattle.lit_interleave.proofs.ActLemmas.{is_owned_by, same_agent}
 use Rattle.lit_interleave.proofs.FutureLemmas.{own_events}
+use Rattle.lit_paths.specs.declared.event.Kind.{Kind}
+use Rattle.lit_paths.specs.declared.event.Kind.TheVariants.{Read, Write, Modify}
 
 -- an access of an agent, at a place in its own order
 pub record IsAccessOf (bytes owner place : ℕ) (e : Event) : Type 0 where
@@ -40,18 +42,13 @@ access_at bytes owner place (x ∷ es) (suc k) e are at =
 
 -- ---- one access
 
-read_is : (bytes owner place : ℕ) (window : Window) (index : ℕ) (atomic : Bool) → IsTrue (is_in_block bytes window index) → IsAccessOf bytes owner place (read_event owner place window index atomic)
-read_is bytes owner place window index atomic h = record { owned = refl; placed = refl; accessed = order-other atomic; in_block = window-in_block bytes index window h; stored = few_bytes window }
-
-write_is : (bytes owner place : ℕ) (window : Window) (index value : ℕ) (atomic : Bool) → IsTrue (is_in_block bytes window index) → IsAccessOf bytes owner place (write_event owner place window index value atomic)
-write_is bytes owner place window index value atomic h = record { owned = refl; placed = refl; accessed = order-other atomic; in_block = window-in_block bytes index window h; stored = few_bytes window }
-
-modify_is : (bytes owner place : ℕ) (window : Window) (index value : ℕ) → IsTrue (is_in_block bytes window index) → IsAccessOf bytes owner place (modify_event owner place window index value)
-modify_is bytes owner place window index value h = record { owned = refl; placed = refl; accessed = order-other true; in_block = window-in_block bytes index window h; stored = few_bytes window }
+access_is : (bytes : ℕ) (kind : Kind) (owner place : ℕ) (window : Window) (index value : ℕ) (atomic : Bool) → IsTrue (is_in_block bytes window index)
+    → IsAccessOf bytes owner place (access_event kind owner place window index value atomic)
+access_is bytes kind owner place window index value atomic h = record { owned = refl; placed = refl; accessed = order-other atomic; in_block = window-in_block bytes index window h; stored = few_bytes window }
 
 exchange_is : (bytes owner place : ℕ) (window : Window) (index value : ℕ) (succeeds : Bool) → IsTrue (is_in_block bytes window index) → IsAccessOf bytes owner place (compare_exchange_event owner place window index value succeeds)
-exchange_is bytes owner place window index value true h = modify_is bytes owner place window index value h
-exchange_is bytes owner place window index value false h = read_is bytes owner place window index true h
+exchange_is bytes owner place window index value true h = access_is bytes Modify owner place window index value true h
+exchange_is bytes owner place window index value false h = access_is bytes Read owner place window index 0 true h
 
 -- ---- the accesses of a walk
 module _ (bytes owner : ℕ) where
@@ -62,11 +59,11 @@ module _ (bytes owner : ℕ) where
   mutual
     made_in : (s : Statement) (place : ℕ) (steps rest : List Step) → IsStatementIn bytes s → IsStatementWalk s steps → ((p : ℕ) → AreMade p rest) → AreMade place (steps ++ rest)
     made_in (Load reg window index atomic) place steps rest said walked later = rw walked
-        (read_is bytes owner place window index atomic said.1, later (place + 1))
+        (access_is bytes Read owner place window index 0 atomic said.1, later (place + 1))
     made_in (Store window index value atomic) place steps rest said walked later = rw walked
-        (write_is bytes owner place window index value atomic said.0, later (place + 1))
+        (access_is bytes Write owner place window index value atomic said.0, later (place + 1))
     made_in (Exchange reg window index value) place steps rest said walked later = rw walked
-        (modify_is bytes owner place window index value said.1, later (place + 1))
+        (access_is bytes Modify owner place window index value true said.1, later (place + 1))
     made_in (CompareExchange reg window index expected value) place steps rest said walked later = rw walked.1
         (exchange_is bytes owner place window index value walked.0 said.1, later (place + 1))
     made_in (If reg equal value body other) place steps rest said walked later =

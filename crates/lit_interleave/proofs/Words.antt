@@ -14,16 +14,16 @@ pub use Rattle.lit_paths.proofs.PathSteps.{length-slice_set}
 pub use Rattle.lit_paths.proofs.Placed.{order-other}
 pub use Rattle.lit_paths.proofs.Products.{slice_get-drop, slice_get_left, slice_get_right}
 pub use Rattle.lit_paths.proofs.Rising.{slice_get-map-found, slice_get-map-known}
-pub use Rattle.lit_paths.specs.ByteReads.{byte_reads, IsCandidate}
-pub use Rattle.lit_paths.specs.Choice.{AreSources, events_of}
+pub use Rattle.lit_paths.specs.ByteReads.{byte_reads}
+pub use Rattle.lit_paths.specs.Members.{IsCandidate, IsStatementWalk, IsWalk, AreSources}
+pub use Rattle.lit_paths.specs.Choice.{events_of}
 pub use Rattle.lit_paths.specs.Event.{does_read, does_write, event_at, HasByte, init_event, init_events, no_event, payload_at}
 unfoldable pub use Rattle.lit_paths.specs.Event.{HasSameRange}
 pub use Rattle.lit_paths.specs.Execution.{Execution, execution_events, execution_outcome, IsCandidateExecution}
 pub use Rattle.lit_paths.specs.Outcome.{outcome_of}
-pub use Rattle.lit_paths.specs.Path.{compare_exchange_event, CompareExchangeMet, decisions_on, ExchangeMet, first_byte, IfMet}
-pub use Rattle.lit_paths.specs.Path.{IsStatementWalk, IsWalk, LoadMet, modify_event, Path, payload_of, read_event, Step, StoreMet}
-pub use Rattle.lit_paths.specs.Path.{write_event}
-pub use Rattle.lit_paths.specs.Plan.{accesses_on}
+pub use Rattle.lit_paths.specs.Path.{access_event, compare_exchange_event, CompareExchangeMet, decisions_on, ExchangeMet, first_byte, IfMet}
+pub use Rattle.lit_paths.specs.Path.{LoadMet, Path, payload_of, Step, StoreMet}
+pub use Rattle.lit_paths.specs.Refusal.{accesses_on}
 pub use Rattle.lit_paths.specs.Run.{AgreesWith, compares, IsRun, Run, run_path}
 pub use Rattle.lit_paths.specs.declared.event.Event.{Event}
 pub use Rattle.lit_syntax.proofs.TreeViews.{if_views}
@@ -39,7 +39,7 @@ pub use Rattle.lit_rel.specs.AgentOrder.{IsAgentOrdered}
 pub use Rattle.lit_rel.specs.Coherent.{HasCoherentReads}
 pub use Rattle.lit_rel.specs.Forbidden.{IsAfterSource, IsBeforeRead, IsBetweenSynchronized}
 pub use Rattle.lit_rel.specs.HappensBefore.{Chain, HappensBefore, IsMadeBefore, StepBy}
-pub use Rattle.lit_rel.specs.InitReads.{AreOfEvents}
+pub use Rattle.lit_rel.specs.ByteReadList.{AreOfEvents}
 pub use Rattle.lit_rel.specs.ReadsFrom.{composed, ReadsByteFrom, value_of}
 pub use Rattle.lit_rel.specs.TearFree.{HasTearFreeReads}
 pub use Rattle.lit_valid.proofs.RunLemmas.{maps, no_run}

@@ -12,7 +12,7 @@ use Rattle.lit_read.specs.declared.fault.ReadKind.{ReadKind}
 use Rattle.lit_json.specs.StatementData.{agents_data, count}
 use Rattle.lit_paths.specs.Choice.{combinations_of, choices_of}
 use Rattle.lit_paths.specs.FaultNames.{limit_text}
-use Rattle.lit_paths.specs.Plan.{HasFewEvents, IsRefusal}
+use Rattle.lit_paths.specs.Refusal.{HasFewEvents, IsRefusal}
 use Rattle.lit_paths.specs.declared.fault.PlanFault.{PlanFault}
 use Rattle.lit_paths.specs.declared.limits.TheConstants as path_limits
 

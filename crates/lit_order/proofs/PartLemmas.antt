@@ -1,7 +1,7 @@
 -- The forbidden triples of a part.
 use Rattle.std.proofs.Common.{length}
 use Rattle.lit_rel.specs.Forbidden.{IsForbidden}
-use Rattle.lit_rel.specs.InitReads.{AreOfEvents}
+use Rattle.lit_rel.specs.ByteReadList.{AreOfEvents}
 use Rattle.lit_rel.specs.Part.{AreFirstSources, PartModel, part_events}
 use Rattle.lit_rel.proofs.ReadingLemmas.{write_known}
 use Rattle.lit_order.proofs.ForcedLemmas.{AreTriplesBelow}

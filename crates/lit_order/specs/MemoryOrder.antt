@@ -44,5 +44,6 @@ pub record IsLeastOrderOf (n : ℕ) (before : ℕ → ℕ → Type 0) (forbidden
 abbrev pub IsMemoryOrder : List Event → List ℕ → List ℕ → Type 0
 IsMemoryOrder events sources order = IsOrderOf (length events) (HappensBefore events sources) (IsForbidden events sources) order
 
+-- the least of these
 abbrev pub IsLeastMemoryOrder : List Event → List ℕ → List ℕ → Type 0
 IsLeastMemoryOrder events sources order = IsLeastOrderOf (length events) (HappensBefore events sources) (IsForbidden events sources) order

@@ -5,7 +5,7 @@ use Rattle.std.specs.List.{enumerate_from}
 use Rattle.std.proofs.lemmas.List.{drop_more, drop_all}
 use Rattle.lit_paths.specs.declared.event.Event.{Event}
 use Rattle.lit_paths.specs.Event.{event_at, no_event, does_write}
-use Rattle.lit_paths.specs.ByteReads.{IsCandidate}
+use Rattle.lit_paths.specs.Members.{IsCandidate}
 use Rattle.lit_paths.specs.Choice.{is_candidate, candidates_of}
 
 -- the candidates among these events, of which the first has number n

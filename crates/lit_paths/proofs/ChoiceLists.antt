@@ -1,5 +1,6 @@
 -- The list of a test's choices has exactly its choices, and rises strictly.
-use Rattle.std.proofs.Common.{◌≡◌, ℕ, List, map, slice_get, Some, option_map, Option, sym, ap, ap₂, ◌∙◌, subst}
+use Rattle.std.proofs.Common.{◌≡◌, ◌↔◌, ℕ, List, map, slice_get, Some, option_map, Option, sym, ap, ap₂, ◌∙◌, subst}
+use Rattle.std.specs.Prelude.{Contains}
 use Rattle.std.specs.Cmp.Lexicographic.{slice_cmp}
 use Rattle.std.specs.Ordering.{nat_cmp, ordering_then}
 use Rattle.std.specs.declared.cmp.Ordering.{Ordering}
@@ -10,10 +11,12 @@ use Rattle.lit_syntax.specs.Syntax.{Litmus}
 use Rattle.lit_paths.specs.declared.event.Event.{Event}
 use Rattle.lit_paths.specs.Path.{Path}
 use Rattle.lit_paths.specs.ByteReads.{byte_reads}
-use Rattle.lit_paths.specs.Choice.{Choice, AreSources, IsChoice, ListsChoices, choice_cmp, candidates_of, sources_of, events_of, combinations_of, choices_on, choices_of}
+use Rattle.lit_paths.specs.Choice.{Choice, candidates_of, sources_of, events_of, combinations_of, choices_on, choices_of}
+use Rattle.lit_paths.specs.Members.{AreSources, IsChoice, ListsChoices, choice_cmp}
+use Rattle.lit_paths.specs.Execution.{Execution, execution_events, IsCandidateExecution}
 use Rattle.lit_paths.proofs.Products.{product-known, product-found}
 use Rattle.lit_paths.proofs.Candidates.{candidates_of-known, candidates_of-found, candidates_from-rising}
-use Rattle.lit_paths.proofs.PathLists.{combinations_of-known, combinations_of-found, combinations_of-rise}
+use Rattle.lit_paths.proofs.PathLists.{contained-at, at-contained, combinations_of-known, combinations_of-found, combinations_of-rise}
 use Rattle.lit_paths.proofs.Rising.{Rises, slice_get-map-known, nat_cmp-less, nat_cmp-same, slice_cmp-same, product-rises, flat_map-known, flat_map-found, flat_map-rises}
 
 -- all events of paths
@@ -46,6 +49,16 @@ sources_of-found events sources are =
           let found = candidates_of-found events from.0.0 from.0.1 w (are.each i from.0.0 from.0.1 w from.1 there) in
           (found.0, sym (ap (λ (l : List ℕ). slice_get l found.0) from.2) ∙ found.1);
     })
+
+pub sources_of-iff : (events : List Event) (sources : List ℕ) → Contains (sources_of events) sources ↔ AreSources events sources
+sources_of-iff events sources = (
+  λ h. let at = contained-at (sources_of events) sources h in AreSources-sources_of events at.0 sources at.1,
+  λ are. let found = sources_of-found events sources are in at-contained (sources_of events) found.0 sources found.1,
+)
+
+-- the sources of a candidate execution
+pub execution-sources : (t : Litmus) (x : Execution) → IsCandidateExecution t x → AreSources (execution_events t x) x.sources
+execution-sources t x is = (sources_of-iff (execution_events t x) x.sources).0 is.sourced
 
 pub choices_of-known : (t : Litmus) (n : ℕ) (choice : Choice) → slice_get (choices_of t) n ≡ Some choice → IsChoice t choice
 unfolding choices_of

@@ -11,7 +11,8 @@ use Rattle.lit_paths.specs.declared.event.Event.{Event}
 use Rattle.lit_paths.specs.ByteReads.{byte_reads, byte_read_at}
 use Rattle.lit_paths.specs.Choice.{product, candidates_of}
 use Rattle.lit_paths.specs.Numbers.{length_product, ways_from}
-use Rattle.lit_paths.specs.Plan.{events_in, AreEventsIn, ListsCandidates}
+use Rattle.lit_paths.specs.Plan.{events_in, AreEventsIn}
+use Rattle.lit_paths.specs.Members.{ListsCandidates}
 use Rattle.lit_paths.specs.Internal.CandidateLists.{ways_after}
 use Rattle.lit_paths.specs.Internal.Entered.{IsEntered}
 use Rattle.lit_paths.proofs.Digits.{later_ways}

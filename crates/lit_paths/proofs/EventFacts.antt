@@ -11,7 +11,8 @@ use Rattle.lit_paths.specs.declared.limits.TheConstants.{ACCESS_LIMIT}
 use Rattle.lit_paths.specs.declared.event.Event.{Event}
 use Rattle.lit_paths.specs.declared.event.Order3.TheVariants.{Init}
 use Rattle.lit_paths.specs.Event.{no_event, event_at, init_event, init_events}
-use Rattle.lit_paths.specs.Path.{Step, IsStatementWalk, IsWalk, events_on, first_byte, payload_of, compare_exchange_event, read_event, write_event, modify_event}
+use Rattle.lit_paths.specs.Path.{Step, events_on, first_byte, payload_of, compare_exchange_event, access_event}
+use Rattle.lit_paths.specs.Members.{IsStatementWalk, IsWalk}
 use Rattle.lit_paths.specs.ByteReads.{byte_reads, byte_reads_from, bytes_read_by}
 use Rattle.lit_paths.specs.Choice.{combinations_of}
 use Rattle.lit_paths.specs.Plan.{AreEventsIn, events_in, walk_in, path_in}
@@ -20,6 +21,8 @@ use Rattle.lit_paths.proofs.ByteReads.{length-bytes_read_by}
 use Rattle.lit_paths.proofs.EventLists.{length-init_events}
 use Rattle.lit_paths.proofs.Placed.{event-owned, event-accessed, event-placed}
 use Rattle.lit_paths.proofs.CombinedPaths.{accesses_before, accesses_of-combination, length-accesses_before, walk_in-walks}
+use Rattle.lit_paths.specs.declared.event.Kind.{Kind}
+use Rattle.lit_paths.specs.declared.event.Kind.TheVariants.{Read, Write, Modify}
 
 -- ---- one event
 pub record IsSound (bytes : ℕ) (e : Event) : Type 0 where
@@ -52,18 +55,13 @@ window-in_block bytes index DataView8 h = omega (arith, leb-true (index + 1) byt
 window-in_block bytes index DataView16 h = omega (arith, leb-true (index + 2) bytes h)
 window-in_block bytes index DataView32 h = omega (arith, leb-true (index + 4) bytes h)
 
-read-sound : (bytes owner place index : ℕ) (window : Window) (atomic : Bool) → IsTrue (is_in_block bytes window index) → IsSound bytes (read_event owner place window index atomic)
-read-sound bytes owner place index window atomic h = record { sized = window-sized window; in_block = window-in_block bytes index window h; payload = zeros-below }
-
-write-sound : (bytes owner place index value : ℕ) (window : Window) (atomic : Bool) → IsTrue (is_in_block bytes window index) → IsSound bytes (write_event owner place window index value atomic)
-write-sound bytes owner place index value window atomic h = record { sized = window-sized window; in_block = window-in_block bytes index window h; payload = payload-below value }
-
-modify-sound : (bytes owner place index value : ℕ) (window : Window) → IsTrue (is_in_block bytes window index) → IsSound bytes (modify_event owner place window index value)
-modify-sound bytes owner place index value window h = record { sized = window-sized window; in_block = window-in_block bytes index window h; payload = payload-below value }
+access-sound : (bytes : ℕ) (kind : Kind) (owner place : ℕ) (window : Window) (index value : ℕ) (atomic : Bool) → IsTrue (is_in_block bytes window index)
+    → IsSound bytes (access_event kind owner place window index value atomic)
+access-sound bytes kind owner place window index value atomic h = record { sized = window-sized window; in_block = window-in_block bytes index window h; payload = payload-below value }
 
 compare_exchange-sound : (bytes owner place index value : ℕ) (window : Window) (succeeds : Bool) → IsTrue (is_in_block bytes window index) → IsSound bytes (compare_exchange_event owner place window index value succeeds)
-compare_exchange-sound bytes owner place index value window true h = modify-sound bytes owner place index value window h
-compare_exchange-sound bytes owner place index value window false h = read-sound bytes owner place index window true h
+compare_exchange-sound bytes owner place index value window true h = access-sound bytes Modify owner place window index value true h
+compare_exchange-sound bytes owner place index value window false h = access-sound bytes Read owner place window index 0 true h
 
 -- ---- the events of a walk
 abbrev AllSound : ℕ → List Event → Type 0
@@ -73,11 +71,11 @@ mutual
   statement-sound : (bytes : ℕ) (s : Statement) (owner place : ℕ) (steps rest : List Step) → IsStatementIn bytes s → IsStatementWalk s steps
       → ((p : ℕ) → AllSound bytes (events_on owner p rest)) → AllSound bytes (events_on owner place (steps ++ rest))
   statement-sound bytes (Load reg window index atomic) owner place steps rest said is later =
-      subst (λ (l : List Step). AllSound bytes (events_on owner place (l ++ rest))) (sym is) (read-sound bytes owner place index window atomic said.1, later (place + 1))
+      subst (λ (l : List Step). AllSound bytes (events_on owner place (l ++ rest))) (sym is) (access-sound bytes Read owner place window index 0 atomic said.1, later (place + 1))
   statement-sound bytes (Store window index value atomic) owner place steps rest said is later =
-      subst (λ (l : List Step). AllSound bytes (events_on owner place (l ++ rest))) (sym is) (write-sound bytes owner place index value window atomic said.0, later (place + 1))
+      subst (λ (l : List Step). AllSound bytes (events_on owner place (l ++ rest))) (sym is) (access-sound bytes Write owner place window index value atomic said.0, later (place + 1))
   statement-sound bytes (Exchange reg window index value) owner place steps rest said is later =
-      subst (λ (l : List Step). AllSound bytes (events_on owner place (l ++ rest))) (sym is) (modify-sound bytes owner place index value window said.1, later (place + 1))
+      subst (λ (l : List Step). AllSound bytes (events_on owner place (l ++ rest))) (sym is) (access-sound bytes Modify owner place window index value true said.1, later (place + 1))
   statement-sound bytes (CompareExchange reg window index expected value) owner place steps rest said is later =
       subst (λ (l : List Step). AllSound bytes (events_on owner place (l ++ rest))) (sym is.1) (compare_exchange-sound bytes owner place index value window is.0 said.1, later (place + 1))
   statement-sound bytes (If reg equal value body other) owner place steps rest said is later =

@@ -8,10 +8,11 @@ use Rattle.lit_syntax.specs.Forms.{Form, StatementLine, IfLine}
 use Rattle.lit_syntax.specs.StatementOrder.{count_with_parts, statement_count, statement_begun, statements_begun}
 use Rattle.lit_syntax.proofs.CountLemmas.{statement_counted, statements_counted}
 use Rattle.lit_paths.specs.declared.path.Tested.{Tested}
-use Rattle.lit_paths.specs.Path.{Step, LoadMet, StoreMet, ExchangeMet, CompareExchangeMet, IfMet, IsWalk}
+use Rattle.lit_paths.specs.Path.{Step, LoadMet, StoreMet, ExchangeMet, CompareExchangeMet, IfMet}
+use Rattle.lit_paths.specs.Members.{IsWalk}
 use Rattle.lit_paths.specs.PathModel.{guards_after}
 use Rattle.lit_paths.specs.StatementNumbers.{AreStatementMakers, AreMakers, accesses_met}
-use Rattle.lit_paths.specs.Internal.Makers.{makers_of}
+use Rattle.lit_paths.specs.Internal.Makers.{makers_by_guards}
 use Rattle.lit_paths.proofs.MakerSteps.{found}
 use Rattle.lit_paths.proofs.Products.{slice_get_left, slice_get_right}
 
@@ -84,7 +85,7 @@ makers_rise n ss steps ms i j m k h = climb_rises n (n + statement_count ss) ms 
 pub makers_exist : (n : ℕ) (ss : Statements) (steps : List Step) → IsWalk ss steps → (ms : List ℕ) × AreMakers n ss steps ms
 makers_exist n ss steps walk =
     let none : List Tested = [] in
-    ((makers_of n ss (guards_after [] steps ++ none)).0, (found n ss [] steps none walk).0)
+    ((makers_by_guards n ss (guards_after [] steps ++ none)).0, (found n ss [] steps none walk).0)
 
 -- two walks through the same have the same makers, and go on in the same way
 abbrev AreSame : List ℕ → List ℕ → List Step → List Step → Type 0

@@ -7,10 +7,11 @@ use Rattle.lit_syntax.specs.Syntax.{Statement, Statements, Load, Store, Exchange
 use Rattle.lit_syntax.specs.Litmus.{statement_of, statements_of}
 use Rattle.lit_syntax.specs.StatementOrder.{count_with_parts, statement_count}
 use Rattle.lit_paths.specs.declared.path.Tested.{Tested}
-use Rattle.lit_paths.specs.Path.{Step, IfMet, IsStatementWalk, IsWalk, walks_of, statement_walks}
+use Rattle.lit_paths.specs.Path.{Step, IfMet, walks_of, statement_walks}
+use Rattle.lit_paths.specs.Members.{IsStatementWalk, IsWalk}
 use Rattle.lit_paths.specs.PathModel.{guards_at, guards_after, guards_on, asked, access_count}
 use Rattle.lit_paths.specs.StatementNumbers.{AreStatementMakers, AreMakers}
-use Rattle.lit_paths.specs.Internal.Makers.{asks_equal, guards_behind, holds_where, statement_makers, makers_of}
+use Rattle.lit_paths.specs.Internal.Makers.{asks_equal, guards_behind, holds_where, statement_makers, makers_by_guards}
 use Rattle.lit_paths.specs.Internal.Walks.{longest, statement_longest, AreShort}
 use Rattle.lit_paths.proofs.AgentPaths.{longest-agent_of, count-agent_of}
 use Rattle.lit_paths.proofs.Parts.{statements_left, statements_end}
@@ -39,12 +40,12 @@ AreFoundAt n s steps later found = AreStatementMakers n s steps found.0 × (foun
 abbrev pub AreFound : ℕ → Statements → List Step → List Tested → List ℕ × List Tested → Type 0
 AreFound n ss steps later found = AreMakers n ss steps found.0 × (found.1 ≡ later)
 
-joined : (n : ℕ) (s : Statement) (ss : Statements) (steps first rest : List Step) (later tests between : List Tested) → steps ≡ first ++ rest
-    → AreFoundAt n s first between (statement_makers n s tests) → AreFound (n + count_with_parts s) ss rest later (makers_of (n + count_with_parts s) ss between)
-    → AreFound n (Then s ss) steps later (makers_of n (Then s ss) tests)
-joined n s ss steps first rest later tests between split early late =
-    let same : AreFound (n + count_with_parts s) ss rest later (makers_of (n + count_with_parts s) ss (statement_makers n s tests).1) = rw early.1 late in
-    ((first, rest, (statement_makers n s tests).0, (makers_of (n + count_with_parts s) ss (statement_makers n s tests).1).0, split, refl, early.0, same.0), same.1)
+joined : (n : ℕ) (s : Statement) (ss : Statements) (steps first rest : List Step) (later guards between : List Tested) → steps ≡ first ++ rest
+    → AreFoundAt n s first between (statement_makers n s guards) → AreFound (n + count_with_parts s) ss rest later (makers_by_guards (n + count_with_parts s) ss between)
+    → AreFound n (Then s ss) steps later (makers_by_guards n (Then s ss) guards)
+joined n s ss steps first rest later guards between split early late =
+    let same : AreFound (n + count_with_parts s) ss rest later (makers_by_guards (n + count_with_parts s) ss (statement_makers n s guards).1) = rw early.1 late in
+    ((first, rest, (statement_makers n s guards).0, (makers_by_guards (n + count_with_parts s) ss (statement_makers n s guards).1).0, split, refl, early.0, same.0), same.1)
 
 mutual
   found_at : (n : ℕ) (s : Statement) (before steps : List Step) (later : List Tested) → IsStatementWalk s steps → AreFoundAt n s steps later (statement_makers n s (guards_after before steps ++ later))
@@ -55,20 +56,20 @@ mutual
   found_at n (If r e v body other) before steps later (inl h) = rw h.1 (rw (holds_where-asked e true) (let inner = found (n + 1) body (before ++ IfMet r e v true ∷ []) h.0 later h.2 in (inl (h.0, refl, inner.0), inner.1)))
   found_at n (If r e v body other) before steps later (inr h) = rw h.1 (rw (holds_where-asked e false) (let inner = found (n + 1 + statement_count body) other (before ++ IfMet r e v false ∷ []) h.0 later h.2 in (inr (h.0, refl, inner.0), inner.1)))
 
-  pub found : (n : ℕ) (ss : Statements) (before steps : List Step) (later : List Tested) → IsWalk ss steps → AreFound n ss steps later (makers_of n ss (guards_after before steps ++ later))
+  pub found : (n : ℕ) (ss : Statements) (before steps : List Step) (later : List Tested) → IsWalk ss steps → AreFound n ss steps later (makers_by_guards n ss (guards_after before steps ++ later))
   found n End before steps later h = rw h ((refl, refl), refl)
   found n (Then s ss) before steps later h =
       let first = found_at n s before h.0 (guards_after (before ++ h.0) h.1 ++ later) h.3 in
       let rest = found (n + count_with_parts s) ss (before ++ h.0) h.1 later h.4 in
-      let tests : guards_after before steps ++ later ≡ guards_after before h.0 ++ (guards_after (before ++ h.0) h.1 ++ later) =
+      let guards : guards_after before steps ++ later ≡ guards_after before h.0 ++ (guards_after (before ++ h.0) h.1 ++ later) =
       ap (λ (xs : List Step). guards_after before xs ++ later) h.2 ∙ ap (λ (ts : List Tested). ts ++ later) (guards_after-append before h.0 h.1) ∙ append_assoc (guards_after before h.0) (guards_after (before ++ h.0) h.1) later in
-      rw tests (joined n s ss steps h.0 h.1 later (guards_after before h.0 ++ (guards_after (before ++ h.0) h.1 ++ later)) (guards_after (before ++ h.0) h.1 ++ later) h.2 first rest)
+      rw guards (joined n s ss steps h.0 h.1 later (guards_after before h.0 ++ (guards_after (before ++ h.0) h.1 ++ later)) (guards_after (before ++ h.0) h.1 ++ later) h.2 first rest)
 
-makers_found : (ss : Statements) (steps : List Step) (tests : List Tested) → IsWalk ss steps → tests ≡ guards_on steps → AreMakers 0 ss steps (makers_of 0 ss tests).0
-makers_found ss steps tests walk is =
+makers_found : (ss : Statements) (steps : List Step) (guards : List Tested) → IsWalk ss steps → guards ≡ guards_on steps → AreMakers 0 ss steps (makers_by_guards 0 ss guards).0
+makers_found ss steps guards walk is =
     let none : List Tested = [] in
-    let whole : guards_after [] steps ++ none ≡ tests = append-nil (guards_after [] steps) ∙ sym is in
-    subst (λ (ts : List Tested). AreMakers 0 ss steps (makers_of 0 ss ts).0) whole (found 0 ss [] steps none walk).0
+    let whole : guards_after [] steps ++ none ≡ guards = append-nil (guards_after [] steps) ∙ sym is in
+    subst (λ (ts : List Tested). AreMakers 0 ss steps (makers_by_guards 0 ss ts).0) whole (found 0 ss [] steps none walk).0
 
 -- ---- how many there are
 
@@ -91,36 +92,36 @@ mutual
 -- ---- how many there may be
 
 mutual
-  statement_makers_few : (n : ℕ) (s : Statement) (tests : List Tested) → length (statement_makers n s tests).0 ≤ statement_longest s
-  statement_makers_few n (Load r w i a) tests = omega arith
-  statement_makers_few n (Store w i v a) tests = omega arith
-  statement_makers_few n (Exchange r w i v) tests = omega arith
-  statement_makers_few n (CompareExchange r w i e v) tests = omega arith
-  statement_makers_few n (If r e v body other) tests =
-      by (holds_where e (asks_equal tests)) (makers_few (n + 1) body (guards_behind tests)) (makers_few (n + 1 + statement_count body) other (guards_behind tests))
+  statement_makers_few : (n : ℕ) (s : Statement) (guards : List Tested) → length (statement_makers n s guards).0 ≤ statement_longest s
+  statement_makers_few n (Load r w i a) guards = omega arith
+  statement_makers_few n (Store w i v a) guards = omega arith
+  statement_makers_few n (Exchange r w i v) guards = omega arith
+  statement_makers_few n (CompareExchange r w i e v) guards = omega arith
+  statement_makers_few n (If r e v body other) guards =
+      by (holds_where e (asks_equal guards)) (makers_few (n + 1) body (guards_behind guards)) (makers_few (n + 1 + statement_count body) other (guards_behind guards))
     where
-      by : (x : Bool) → length (makers_of (n + 1) body (guards_behind tests)).0 ≤ longest body → length (makers_of (n + 1 + statement_count body) other (guards_behind tests)).0 ≤ longest other
-          → length (cond x (makers_of (n + 1) body (guards_behind tests)) (makers_of (n + 1 + statement_count body) other (guards_behind tests))).0 ≤ max (longest body) (longest other)
+      by : (x : Bool) → length (makers_by_guards (n + 1) body (guards_behind guards)).0 ≤ longest body → length (makers_by_guards (n + 1 + statement_count body) other (guards_behind guards)).0 ≤ longest other
+          → length (cond x (makers_by_guards (n + 1) body (guards_behind guards)) (makers_by_guards (n + 1 + statement_count body) other (guards_behind guards))).0 ≤ max (longest body) (longest other)
       by true then_few else_few = omega (arith, then_few)
       by false then_few else_few = omega (arith, else_few)
 
-  makers_few : (n : ℕ) (ss : Statements) (tests : List Tested) → length (makers_of n ss tests).0 ≤ longest ss
-  makers_few n End tests = omega arith
-  makers_few n (Then s ss) tests =
-      let late = makers_few (n + count_with_parts s) ss (statement_makers n s tests).1 in
-      omega (arith, length-append (statement_makers n s tests).0 (makers_of (n + count_with_parts s) ss (statement_makers n s tests).1).0, statement_makers_few n s tests, late)
+  makers_few : (n : ℕ) (ss : Statements) (guards : List Tested) → length (makers_by_guards n ss guards).0 ≤ longest ss
+  makers_few n End guards = omega arith
+  makers_few n (Then s ss) guards =
+      let late = makers_few (n + count_with_parts s) ss (statement_makers n s guards).1 in
+      omega (arith, length-append (statement_makers n s guards).0 (makers_by_guards (n + count_with_parts s) ss (statement_makers n s guards).1).0, statement_makers_few n s guards, late)
 
 -- ---- one statement more
 
 -- What is found so far, with what is found in the remaining statements, is what is found in all of them.
-pub record IsFinding (xs : List Stmt) (first : ℕ) (tests : List Tested) (begun : List ℕ) (i number : ℕ) (left : List Tested) (makers : List ℕ) : Type 0 where
-  pub whole : makers ++ (makers_of number (left_of xs i) left).0 ≡ begun ++ (makers_of first (statements_of xs) tests).0
-  pub rest : (makers_of number (left_of xs i) left).1 ≡ (makers_of first (statements_of xs) tests).1
+pub record IsFinding (xs : List Stmt) (first : ℕ) (guards : List Tested) (begun : List ℕ) (i number : ℕ) (left : List Tested) (makers : List ℕ) : Type 0 where
+  pub whole : makers ++ (makers_by_guards number (left_of xs i) left).0 ≡ begun ++ (makers_by_guards first (statements_of xs) guards).0
+  pub rest : (makers_by_guards number (left_of xs i) left).1 ≡ (makers_by_guards first (statements_of xs) guards).1
   pub count : number + statement_count (left_of xs i) ≡ first + statement_count (statements_of xs)
   pub room : length makers + longest (left_of xs i) ≤ length begun + longest (statements_of xs)
 
-pub finding_begins : (xs : List Stmt) (first : ℕ) (tests : List Tested) (begun : List ℕ) → IsFinding xs first tests begun 0 first tests begun
-finding_begins xs first tests begun = record { whole = refl; rest = refl; count = refl; room = omega arith }
+pub finding_begins : (xs : List Stmt) (first : ℕ) (guards : List Tested) (begun : List ℕ) → IsFinding xs first guards begun 0 first guards begun
+finding_begins xs first guards begun = record { whole = refl; rest = refl; count = refl; room = omega arith }
 
 -- a statement among those that are still to come
 pub record IsNextStatement (xs : List Stmt) (i : ℕ) (s : Statement) : Type 0 where
@@ -131,29 +132,29 @@ pub record IsNextStatement (xs : List Stmt) (i : ℕ) (s : Statement) : Type 0 w
 pub is_next : (xs : List Stmt) (i : ℕ) (x : Stmt) → i < length xs → x ≡ get_or xs i x → IsNextStatement xs i (statement_of x)
 is_next xs i x inside is = let split = statements_left xs i x inside is in record { split = split; count = ap statement_count split; long = ap longest split }
 
-pub finding_more : (xs : List Stmt) (first : ℕ) (tests : List Tested) (begun : List ℕ) (i number : ℕ) (left : List Tested) (makers : List ℕ) (x : Stmt) (number' : ℕ) (left' : List Tested) (makers' : List ℕ)
+pub finding_more : (xs : List Stmt) (first : ℕ) (guards : List Tested) (begun : List ℕ) (i number : ℕ) (left : List Tested) (makers : List ℕ) (x : Stmt) (number' : ℕ) (left' : List Tested) (makers' : List ℕ)
     → i < length xs → x ≡ get_or xs i x → makers' ≡ makers ++ (statement_makers number (statement_of x) left).0 → left' ≡ (statement_makers number (statement_of x) left).1 → number' ≡ number + count_with_parts (statement_of x)
-    → IsFinding xs first tests begun i number left makers → IsFinding xs first tests begun (i + 1) number' left' makers'
-finding_more xs first tests begun i number left makers x number' left' makers' inside is put left_is number_is f =
+    → IsFinding xs first guards begun i number left makers → IsFinding xs first guards begun (i + 1) number' left' makers'
+finding_more xs first guards begun i number left makers x number' left' makers' inside is put left_is number_is f =
     let s : Statement = statement_of x in
     let others : Statements = left_of xs (i + 1) in
     let next = is_next xs i x inside is in
     let found_left : List Tested = (statement_makers number s left).1 in
-    let both : makers_of number (left_of xs i) left ≡ ((statement_makers number s left).0 ++ (makers_of (number + count_with_parts s) others found_left).0, (makers_of (number + count_with_parts s) others found_left).1) =
-    ap (λ (ss : Statements). makers_of number ss left) next.split in
-    let here : makers_of number' others left' ≡ makers_of (number + count_with_parts s) others found_left = ap (λ (n : ℕ). makers_of n others left') number_is ∙ ap (λ (ts : List Tested). makers_of (number + count_with_parts s) others ts) left_is in
+    let both : makers_by_guards number (left_of xs i) left ≡ ((statement_makers number s left).0 ++ (makers_by_guards (number + count_with_parts s) others found_left).0, (makers_by_guards (number + count_with_parts s) others found_left).1) =
+    ap (λ (ss : Statements). makers_by_guards number ss left) next.split in
+    let here : makers_by_guards number' others left' ≡ makers_by_guards (number + count_with_parts s) others found_left = ap (λ (n : ℕ). makers_by_guards n others left') number_is ∙ ap (λ (ts : List Tested). makers_by_guards (number + count_with_parts s) others ts) left_is in
     record {
-      whole = ap (λ (p : List ℕ × List Tested). makers' ++ p.0) here ∙ ap (λ (ms : List ℕ). ms ++ (makers_of (number + count_with_parts s) others found_left).0) put
-          ∙ append_assoc makers (statement_makers number s left).0 (makers_of (number + count_with_parts s) others found_left).0 ∙ ap (λ (p : List ℕ × List Tested). makers ++ p.0) (sym both) ∙ f.whole;
+      whole = ap (λ (p : List ℕ × List Tested). makers' ++ p.0) here ∙ ap (λ (ms : List ℕ). ms ++ (makers_by_guards (number + count_with_parts s) others found_left).0) put
+          ∙ append_assoc makers (statement_makers number s left).0 (makers_by_guards (number + count_with_parts s) others found_left).0 ∙ ap (λ (p : List ℕ × List Tested). makers ++ p.0) (sym both) ∙ f.whole;
       rest = ap (λ (p : List ℕ × List Tested). p.1) here ∙ ap (λ (p : List ℕ × List Tested). p.1) (sym both) ∙ f.rest;
       count = omega (arith, number_is, next.count, f.count);
       room = omega (arith, ap (λ (ms : List ℕ). length ms) put, length-append makers (statement_makers number s left).0, statement_makers_few number s left, next.long, f.room);
     }
 
-pub finding_ends : (xs : List Stmt) (first : ℕ) (tests : List Tested) (begun : List ℕ) (i number : ℕ) (left : List Tested) (makers : List ℕ) → length xs ≤ i → IsFinding xs first tests begun i number left makers
-    → (makers ≡ begun ++ (makers_of first (statements_of xs) tests).0) × (left ≡ (makers_of first (statements_of xs) tests).1)
-finding_ends xs first tests begun i number left makers past f =
-    let none : makers_of number (left_of xs i) left ≡ ([], left) = ap (λ (ss : Statements). makers_of number ss left) (statements_end xs i past) in (
+pub finding_ends : (xs : List Stmt) (first : ℕ) (guards : List Tested) (begun : List ℕ) (i number : ℕ) (left : List Tested) (makers : List ℕ) → length xs ≤ i → IsFinding xs first guards begun i number left makers
+    → (makers ≡ begun ++ (makers_by_guards first (statements_of xs) guards).0) × (left ≡ (makers_by_guards first (statements_of xs) guards).1)
+finding_ends xs first guards begun i number left makers past f =
+    let none : makers_by_guards number (left_of xs i) left ≡ ([], left) = ap (λ (ss : Statements). makers_by_guards number ss left) (statements_end xs i past) in (
       sym (append-nil makers) ∙ ap (λ (p : List ℕ × List Tested). makers ++ p.0) (sym none) ∙ f.whole,
       ap (λ (p : List ℕ × List Tested). p.1) (sym none) ∙ f.rest,
     )
@@ -196,21 +197,21 @@ mutual
 
 -- ---- an `if`, by its parts
 
-pub found-then : (n : ℕ) (s : Statement) (reg : ℕ) (equal : Bool) (value : ℕ) (body other : Statements) (tests left : List Tested) (asked_equal holds : Bool) → s ≡ If reg equal value body other
-    → asked_equal ≡ asks_equal tests → holds ≡ holds_where equal asked_equal → left ≡ guards_behind tests → holds ≡ true → statement_makers n s tests ≡ makers_of (n + 1) body left
-found-then n s reg equal value body other tests left asked_equal holds is asks by_asked behind so_holds =
-    let so : holds_where equal (asks_equal tests) ≡ true = ap (holds_where equal) (sym asks) ∙ sym by_asked ∙ so_holds in
-    ap (λ x. statement_makers n x tests) is
-    ∙ ap (λ (b : Bool). cond b (makers_of (n + 1) body (guards_behind tests)) (makers_of (n + 1 + statement_count body) other (guards_behind tests))) so
-    ∙ ap (makers_of (n + 1) body) (sym behind)
+pub found-then : (n : ℕ) (s : Statement) (reg : ℕ) (equal : Bool) (value : ℕ) (body other : Statements) (guards left : List Tested) (asked_equal holds : Bool) → s ≡ If reg equal value body other
+    → asked_equal ≡ asks_equal guards → holds ≡ holds_where equal asked_equal → left ≡ guards_behind guards → holds ≡ true → statement_makers n s guards ≡ makers_by_guards (n + 1) body left
+found-then n s reg equal value body other guards left asked_equal holds is asks by_asked behind so_holds =
+    let so : holds_where equal (asks_equal guards) ≡ true = ap (holds_where equal) (sym asks) ∙ sym by_asked ∙ so_holds in
+    ap (λ x. statement_makers n x guards) is
+    ∙ ap (λ (b : Bool). cond b (makers_by_guards (n + 1) body (guards_behind guards)) (makers_by_guards (n + 1 + statement_count body) other (guards_behind guards))) so
+    ∙ ap (makers_by_guards (n + 1) body) (sym behind)
 
-pub found-else : (n next : ℕ) (s : Statement) (reg : ℕ) (equal : Bool) (value : ℕ) (body other : Statements) (tests left : List Tested) (asked_equal holds : Bool) → s ≡ If reg equal value body other
-    → asked_equal ≡ asks_equal tests → holds ≡ holds_where equal asked_equal → left ≡ guards_behind tests → holds ≡ false → next ≡ n + 1 + statement_count body → statement_makers n s tests ≡ makers_of next other left
-found-else n next s reg equal value body other tests left asked_equal holds is asks by_asked behind so_fails next_is =
-    let so : holds_where equal (asks_equal tests) ≡ false = ap (holds_where equal) (sym asks) ∙ sym by_asked ∙ so_fails in
-    ap (λ x. statement_makers n x tests) is
-    ∙ ap (λ (b : Bool). cond b (makers_of (n + 1) body (guards_behind tests)) (makers_of (n + 1 + statement_count body) other (guards_behind tests))) so
-    ∙ ap (λ m. makers_of m other (guards_behind tests)) (sym next_is) ∙ ap (makers_of next other) (sym behind)
+pub found-else : (n next : ℕ) (s : Statement) (reg : ℕ) (equal : Bool) (value : ℕ) (body other : Statements) (guards left : List Tested) (asked_equal holds : Bool) → s ≡ If reg equal value body other
+    → asked_equal ≡ asks_equal guards → holds ≡ holds_where equal asked_equal → left ≡ guards_behind guards → holds ≡ false → next ≡ n + 1 + statement_count body → statement_makers n s guards ≡ makers_by_guards next other left
+found-else n next s reg equal value body other guards left asked_equal holds is asks by_asked behind so_fails next_is =
+    let so : holds_where equal (asks_equal guards) ≡ false = ap (holds_where equal) (sym asks) ∙ sym by_asked ∙ so_fails in
+    ap (λ x. statement_makers n x guards) is
+    ∙ ap (λ (b : Bool). cond b (makers_by_guards (n + 1) body (guards_behind guards)) (makers_by_guards (n + 1 + statement_count body) other (guards_behind guards))) so
+    ∙ ap (λ m. makers_by_guards m other (guards_behind guards)) (sym next_is) ∙ ap (makers_by_guards next other) (sym behind)
 
 pub agent_few : (t : Litmus) (agent : ℕ) → agent < length t.agents → AreShort t.agents → statement_count (agent_of t agent).body < 102400
 agent_few t agent inside short =
@@ -218,8 +219,8 @@ agent_few t agent inside short =
     let long : longest (agent_of t agent).body + 1 ≤ 25 = omega (arith, longest-agent_of t agent inside, short.short) in
     omega (arith, statements_few (agent_of t agent).body, mul-le-mul few long)
 
-pub makers_all_found : (ss body : Statements) (steps : List Step) (tests : List Tested) (begun new : List ℕ) → begun ≡ [] → ss ≡ body → new ≡ begun ++ (makers_of 0 ss tests).0 → tests ≡ guards_on steps → IsWalk body steps
+pub makers_all_found : (ss body : Statements) (steps : List Step) (guards : List Tested) (begun new : List ℕ) → begun ≡ [] → ss ≡ body → new ≡ begun ++ (makers_by_guards 0 ss guards).0 → guards ≡ guards_on steps → IsWalk body steps
     → AreMakers 0 body steps new
-makers_all_found ss body steps tests begun new none same put is walk =
-    let items : new ≡ (makers_of 0 body tests).0 = put ∙ ap (λ (xs : List ℕ). xs ++ (makers_of 0 ss tests).0) none ∙ ap (λ x. (makers_of 0 x tests).0) same in
-    subst (λ (ms : List ℕ). AreMakers 0 body steps ms) (sym items) (makers_found body steps tests walk is)
+makers_all_found ss body steps guards begun new none same put is walk =
+    let items : new ≡ (makers_by_guards 0 body guards).0 = put ∙ ap (λ (xs : List ℕ). xs ++ (makers_by_guards 0 ss guards).0) none ∙ ap (λ x. (makers_by_guards 0 x guards).0) same in
+    subst (λ (ms : List ℕ). AreMakers 0 body steps ms) (sym items) (makers_found body steps guards walk is)

@@ -9,7 +9,8 @@ use Rattle.std.proofs.lemmas.Option.{slice_get-get_or, slice_get_within}
 use Rattle.lit_syntax.specs.Syntax.{Litmus}
 use Rattle.lit_paths.specs.declared.event.Event.{Event}
 use Rattle.lit_paths.specs.Path.{Path}
-use Rattle.lit_paths.specs.ByteReads.{byte_reads, byte_read_at, IsCandidate}
+use Rattle.lit_paths.specs.ByteReads.{byte_reads, byte_read_at}
+use Rattle.lit_paths.specs.Members.{IsCandidate}
 use Rattle.lit_paths.specs.Choice.{Choice, product, candidates_of, sources_of, combinations_of, choices_on, choices_of}
 use Rattle.lit_paths.specs.Numbers.{length_product, ways_from, IsBegunBy, AreNumbered, AreGiven, NumbersChoices}
 use Rattle.lit_paths.specs.Plan.{combination_at, events_in, choices_before}

@@ -1,16 +1,38 @@
 -- The list of an agent's paths has exactly its paths, by rising decisions, and so has the list of combinations.
-use Rattle.std.proofs.Common.{◌≡◌, ℕ, zero, suc, ◌+◌, ◌<◌, List, [], ◌∷◌, length, map, get_or, slice_get, Some, arith, refl, sym, ap, ◌∙◌, subst}
+use Rattle.std.proofs.Common.{◌≡◌, ◌↔◌, ℕ, zero, suc, ◌+◌, ◌<◌, List, [], ◌∷◌, length, map, get_or, slice_get, Some, arith, refl, sym, ap, ◌∙◌, subst}
+use Rattle.std.specs.Prelude.{Contains}
+use Rattle.std.specs.List.{enumerate_from}
 use Rattle.std.specs.Cmp.Lexicographic.{slice_cmp}
 use Rattle.std.specs.Ordering.{nat_cmp, ordering_then}
 use Rattle.std.specs.declared.cmp.Ordering.{Ordering}
 use Rattle.std.specs.declared.cmp.Ordering.TheVariants.{Less, Equal}
-use Rattle.std.proofs.lemmas.Option.{slice_get_within}
+use Rattle.std.proofs.lemmas.Option.{slice_get_within, slice_get-get_or, get_or_from_slice_get}
 use Rattle.lit_syntax.specs.Syntax.{Agent, Statements, Litmus, agent_of}
-use Rattle.lit_paths.specs.Path.{Path, IsPath, path_on, paths_of, walks_of, decisions_on}
-use Rattle.lit_paths.specs.Choice.{AreCombined, ListsCombinations, paths_of_agents, combinations_of}
+use Rattle.lit_paths.specs.Path.{Path, Step, path_on, paths_of, walks_of, decisions_on}
+use Rattle.lit_paths.specs.Members.{IsPath, IsWalk, AreCombined, ListsCombinations}
+use Rattle.lit_paths.specs.Choice.{combinations_of}
+use Rattle.lit_paths.specs.Run.{Run, IsRun, run_path}
 use Rattle.lit_paths.proofs.Products.{product-known, product-found}
 use Rattle.lit_paths.proofs.Rising.{Rises, slice_get-map-known, slice_get-map-found, map-rises, nat_cmp-same, slice_cmp-same, product-rises}
 use Rattle.lit_paths.proofs.Walks.{WalkBefore, walks_of-known, walks_of-found, walks_of-rise, walk-decided, parts-less}
+
+-- ---- what a list contains, by its place
+pub contained-at : {A : Type 0} (xs : List A) (x : A) → Contains xs x → (k : ℕ) × (slice_get xs k ≡ Some x)
+contained-at xs x h = (h.0, slice_get-get_or xs h.0 x h.1 ∙ ap (λ y. Some y) h.2)
+
+pub at-contained : {A : Type 0} (xs : List A) (k : ℕ) (x : A) → slice_get xs k ≡ Some x → Contains xs x
+at-contained xs k x at = (k, slice_get_within xs k x at, get_or_from_slice_get xs k x x at)
+
+-- ---- walks and paths
+pub walks_of-iff : (ss : Statements) (steps : List Step) → Contains (walks_of ss) steps ↔ IsWalk ss steps
+walks_of-iff ss steps = (
+  λ h. let at = contained-at (walks_of ss) steps h in walks_of-known ss at.0 steps at.1,
+  λ walked. let found = walks_of-found ss steps walked in at-contained (walks_of ss) found.0 steps found.1,
+)
+
+-- the path that a run is on
+abbrev pub run-path : (owner : ℕ) (ss : Statements) (run : Run) → IsRun owner ss run → IsPath owner ss (run_path run)
+run-path owner ss run is = record { steps = is.steps; walked = (walks_of-iff ss is.steps).0 is.walked; taken = is.taken }
 
 pub paths_of-known : (owner : ℕ) (ss : Statements) (k : ℕ) (path : Path) → slice_get (paths_of owner ss) k ≡ Some path → IsPath owner ss path
 paths_of-known owner ss k path at =
@@ -41,7 +63,10 @@ IsPath-only owner ss path other first second same =
     (ap (λ (p : Path). p.decisions) first.taken ∙ same ∙ sym (ap (λ (p : Path). p.decisions) second.taken)) in
     sym first.taken ∙ ap (path_on owner) steps ∙ second.taken
 
--- ---- the paths of all agents
+-- ---- the paths of all agents, of which the first has this number
+abbrev pub paths_of_agents : ℕ → List Agent → List (List Path)
+paths_of_agents n agents = map (λ agent. paths_of agent.0 agent.1.body) (enumerate_from n agents)
+
 pub length-paths_of_agents : (n : ℕ) (agents : List Agent) → length (paths_of_agents n agents) ≡ length agents
 length-paths_of_agents n [] = refl
 length-paths_of_agents n (a ∷ agents) = omega (arith, length-paths_of_agents (n + 1) agents)

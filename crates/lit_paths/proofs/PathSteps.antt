@@ -11,10 +11,12 @@ use Rattle.std.proofs.lemmas.Option.{same_Some}
 use Rattle.lit_syntax.specs.declared.limits.TheConstants.{REGISTERS}
 use Rattle.lit_paths.specs.declared.event.Event.{Event}
 use Rattle.lit_paths.specs.declared.path.Tested.{Tested}
-use Rattle.lit_paths.specs.Path.{Step, LoadMet, StoreMet, ExchangeMet, CompareExchangeMet, IfMet, IsStatementWalk, IsWalk, read_event, write_event, modify_event, compare_exchange_event, decisions_on, events_on}
+use Rattle.lit_paths.specs.Path.{Step, LoadMet, StoreMet, ExchangeMet, CompareExchangeMet, IfMet, compare_exchange_event, decisions_on, events_on, access_event}
+use Rattle.lit_paths.specs.Members.{IsStatementWalk, IsWalk}
 use Rattle.lit_paths.specs.Event.{does_read}
 use Rattle.lit_paths.specs.PathModel.{PathModel, IsReadAt, accesses_of, access_count, reads_into, last_read_from, last_read, asked, guards_after, guards_on, path_model}
 use Rattle.lit_paths.specs.Internal.PathSteps.{empty_path, with_steps}
+use Rattle.lit_paths.specs.declared.event.Kind.TheVariants.{Read, Write, Modify}
 
 -- ---- the guards and registers of steps, from a place on, where the registers hold these reads
 abbrev pub guards_from : ℕ → List (Option ℕ) → List Step → List Tested
@@ -59,14 +61,14 @@ with_steps-from : (owner : ℕ) (events : List Event) (tests : List Tested) (las
 with_steps-from owner events tests last [] =
     ap₂ (λ (es : List Event) (ts : List Tested). record { events = es; tests = ts; last = last }) (sym (append-nil events)) (sym (append-nil tests))
 with_steps-from owner events tests last (LoadMet reg window index atomic ∷ steps) =
-    let e = read_event owner (length events) window index atomic in
+    let e = access_event Read owner (length events) window index 0 atomic in
     let last_now = slice_set last reg (Some (length events)) in
     with_steps-from owner (events ++ e ∷ []) tests last_now steps ∙ moved owner events e tests last_now steps
 with_steps-from owner events tests last (StoreMet window index value atomic ∷ steps) =
-    let e = write_event owner (length events) window index value atomic in
+    let e = access_event Write owner (length events) window index value atomic in
     with_steps-from owner (events ++ e ∷ []) tests last steps ∙ moved owner events e tests last steps
 with_steps-from owner events tests last (ExchangeMet reg window index value ∷ steps) =
-    let e = modify_event owner (length events) window index value in
+    let e = access_event Modify owner (length events) window index value true in
     let last_now = slice_set last reg (Some (length events)) in
     with_steps-from owner (events ++ e ∷ []) tests last_now steps ∙ moved owner events e tests last_now steps
 with_steps-from owner events tests last (CompareExchangeMet reg window index expected value succeeds ∷ steps) =
@@ -328,12 +330,12 @@ last-here place q false None e es reads later at = cc
 pub last-at : (owner place : ℕ) (steps : List Step) (q : ℕ) (r : ℕ) → last_read_from place steps r ≡ Some q → IsLast owner place steps q
 last-at owner place [] q r at = cc
 last-at owner place (LoadMet reg window index atomic ∷ steps) q r at =
-    last-here place q (reg == r) (last_read_from (place + 1) steps r) (read_event owner place window index atomic) (events_on owner (place + 1) steps) refl (λ x is. let later = last-at owner (place + 1) steps x r is in (later.0, later.1, later.2)) at
+    last-here place q (reg == r) (last_read_from (place + 1) steps r) (access_event Read owner place window index 0 atomic) (events_on owner (place + 1) steps) refl (λ x is. let later = last-at owner (place + 1) steps x r is in (later.0, later.1, later.2)) at
 last-at owner place (StoreMet window index value atomic ∷ steps) q r at =
     let later = last-at owner (place + 1) steps q r (sym (option_or-none (last_read_from (place + 1) steps r)) ∙ at) in
-    (suc later.0, omega (arith, later.1), later_read (write_event owner place window index value atomic) (events_on owner (place + 1) steps) later.0 later.2)
+    (suc later.0, omega (arith, later.1), later_read (access_event Write owner place window index value atomic) (events_on owner (place + 1) steps) later.0 later.2)
 last-at owner place (ExchangeMet reg window index value ∷ steps) q r at =
-    last-here place q (reg == r) (last_read_from (place + 1) steps r) (modify_event owner place window index value) (events_on owner (place + 1) steps) refl (λ x is. let later = last-at owner (place + 1) steps x r is in (later.0, later.1, later.2)) at
+    last-here place q (reg == r) (last_read_from (place + 1) steps r) (access_event Modify owner place window index value true) (events_on owner (place + 1) steps) refl (λ x is. let later = last-at owner (place + 1) steps x r is in (later.0, later.1, later.2)) at
 last-at owner place (CompareExchangeMet reg window index expected value succeeds ∷ steps) q r at =
     last-here place q (reg == r) (last_read_from (place + 1) steps r) (compare_exchange_event owner place window index value succeeds) (events_on owner (place + 1) steps)
     (exchange-reads owner place window index value succeeds) (λ x is. let later = last-at owner (place + 1) steps x r is in (later.0, later.1, later.2)) at
@@ -360,11 +362,11 @@ read-front (x ∷ xs) es (suc i) is = later_read x (xs ++ es) i (read-front xs e
 events_on-append : (owner place : ℕ) (a b : List Step) → events_on owner place (a ++ b) ≡ events_on owner place a ++ events_on owner (place + access_count a) b
 events_on-append owner place [] b = ap (λ n. events_on owner n b) (let e : place ≡ place + 0 = omega arith in e)
 events_on-append owner place (LoadMet reg window index atomic ∷ a) b =
-    ap (λ es. read_event owner place window index atomic ∷ es) (events_on-append owner (place + 1) a b ∙ ap (λ n. events_on owner (place + 1) a ++ events_on owner n b) (let e : (place + 1) + access_count a ≡ place + (1 + access_count a) = omega arith in e))
+    ap (λ es. access_event Read owner place window index 0 atomic ∷ es) (events_on-append owner (place + 1) a b ∙ ap (λ n. events_on owner (place + 1) a ++ events_on owner n b) (let e : (place + 1) + access_count a ≡ place + (1 + access_count a) = omega arith in e))
 events_on-append owner place (StoreMet window index value atomic ∷ a) b =
-    ap (λ es. write_event owner place window index value atomic ∷ es) (events_on-append owner (place + 1) a b ∙ ap (λ n. events_on owner (place + 1) a ++ events_on owner n b) (let e : (place + 1) + access_count a ≡ place + (1 + access_count a) = omega arith in e))
+    ap (λ es. access_event Write owner place window index value atomic ∷ es) (events_on-append owner (place + 1) a b ∙ ap (λ n. events_on owner (place + 1) a ++ events_on owner n b) (let e : (place + 1) + access_count a ≡ place + (1 + access_count a) = omega arith in e))
 events_on-append owner place (ExchangeMet reg window index value ∷ a) b =
-    ap (λ es. modify_event owner place window index value ∷ es) (events_on-append owner (place + 1) a b ∙ ap (λ n. events_on owner (place + 1) a ++ events_on owner n b) (let e : (place + 1) + access_count a ≡ place + (1 + access_count a) = omega arith in e))
+    ap (λ es. access_event Modify owner place window index value true ∷ es) (events_on-append owner (place + 1) a b ∙ ap (λ n. events_on owner (place + 1) a ++ events_on owner n b) (let e : (place + 1) + access_count a ≡ place + (1 + access_count a) = omega arith in e))
 events_on-append owner place (CompareExchangeMet reg window index expected value succeeds ∷ a) b =
     ap (λ es. compare_exchange_event owner place window index value succeeds ∷ es) (events_on-append owner (place + 1) a b ∙ ap (λ n. events_on owner (place + 1) a ++ events_on owner n b) (let e : (place + 1) + access_count a ≡ place + (1 + access_count a) = omega arith in e))
 events_on-append owner place (IfMet reg equal value holds ∷ a) b =

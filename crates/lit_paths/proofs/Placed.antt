@@ -11,7 +11,8 @@ use Rattle.lit_paths.specs.declared.event.Order3.TheVariants.{Init}
 use Rattle.lit_paths.specs.Event.{no_event, event_at, init_event, init_events}
 use Rattle.lit_paths.specs.Path.{Path, Step, LoadMet, StoreMet, ExchangeMet, CompareExchangeMet, IfMet, order_of, compare_exchange_event, events_on, path_on}
 use Rattle.lit_paths.specs.Choice.{combinations_of}
-use Rattle.lit_paths.specs.Plan.{accesses_on, combination_at, events_in, walk_in, first_event}
+use Rattle.lit_paths.specs.Plan.{combination_at, events_in, walk_in, first_event}
+use Rattle.lit_paths.specs.Refusal.{accesses_on}
 use Rattle.lit_paths.proofs.EventLists.{length-init_events}
 use Rattle.lit_paths.proofs.CombinedPaths.{path_at, length-combination}
 

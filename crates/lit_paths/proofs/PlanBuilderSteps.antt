@@ -1,18 +1,21 @@
 -- Counting over the agents of a test, and what the counts say of its combinations.
 use Rattle.std.proofs.Common.{◌≡◌, ◌⊎◌, ℕ, zero, suc, ◌+◌, ◌*◌, ◌<◌, ◌≤◌, true, false, List, [], ◌∷◌, ◌++◌, length, drop, get_or, slice_get, Some, arith, refl, sym, ap, ◌∙◌, subst, min, inl, inr, ⊎_elim, append_assoc, append-nil, length-append, mul-le-mul}
-use Rattle.std.specs.Prelude.{MatchOption, Option, None}
+use Rattle.std.specs.Prelude.{MatchOption, Option, None, Any}
 use Rattle.std.proofs.lemmas.Bool.{cases_lt}
 use Rattle.std.proofs.lemmas.List.{drop_more, drop_all}
-use Rattle.std.proofs.lemmas.Option.{slice_get_within}
+use Rattle.std.proofs.lemmas.Option.{slice_get_within, slice_get-get_or, get_or_from_slice_get}
 use Rattle.lit_syntax.specs.Syntax.{Litmus, Agent, Statement, Statements, Load, Store, Exchange, CompareExchange, If, End, Then, agent_of}
 use Rattle.lit_paths.specs.declared.limits.TheConstants.{ACCESS_LIMIT, COMBINATION_LIMIT, CHOICE_LIMIT}
 use Rattle.lit_paths.specs.declared.fault.PlanFault.{PlanFault}
 use Rattle.lit_paths.specs.declared.fault.PlanFault.TheVariants.{OutOfMemory, TooManyChoices}
-use Rattle.lit_paths.specs.Path.{Path, Step, LoadMet, StoreMet, ExchangeMet, CompareExchangeMet, IfMet, IsStatementWalk, IsWalk, IsPath, walks_of, events_on, path_on}
+use Rattle.lit_paths.specs.Path.{Path, Step, LoadMet, StoreMet, ExchangeMet, CompareExchangeMet, IfMet, walks_of, events_on, path_on}
+use Rattle.lit_paths.specs.Members.{IsStatementWalk, IsWalk, IsPath}
 use Rattle.lit_paths.specs.Choice.{combinations_of, choices_of}
-use Rattle.lit_paths.specs.Plan.{accesses_on, HasTooManyEvents, HasFewEvents, IsPlanFault}
+use Rattle.lit_paths.specs.Plan.{IsPlanFault}
+use Rattle.lit_paths.specs.Refusal.{accesses_on, HasFewEvents}
 use Rattle.lit_paths.specs.Internal.Walks.{longest, statement_longest, longest_of, count_of}
 use Rattle.lit_paths.proofs.Walks.{walks_of-some}
+use Rattle.lit_paths.proofs.PathLists.{combinations_of-known, combinations_of-found}
 use Rattle.lit_paths.proofs.AgentPaths.{count_of-some}
 use Rattle.lit_paths.proofs.Counts.{capped_factor}
 use Rattle.lit_paths.proofs.Combined.{count_of-left}
@@ -151,12 +154,18 @@ from_combined n (a ∷ agents) d (p ∷ paths) are =
       ],
     )
 
-pub too_many_events : (t : Litmus) → ACCESS_LIMIT < longest_of t.agents → HasTooManyEvents t
+pub too_many_events : (t : Litmus) → ACCESS_LIMIT < longest_of t.agents → Any (λ paths. ACCESS_LIMIT < length (accesses_on paths)) (combinations_of t)
 too_many_events t many =
     let found = longest_paths 0 t.agents in
-    let are = from_combined 0 t.agents nobody found.0 found.1 in (
+    let are = from_combined 0 t.agents nobody found.0 found.1 in
+    let listed = combinations_of-found t found.0 (record {
+      one_each = are.0;
+      each = λ i path at. subst (λ m. IsPath m (agent_of t i).body path) (let e : 0 + i ≡ i = omega arith in e) (are.1 i path at);
+    }) in (
+      listed.0,
       found.0,
-      record { one_each = are.0; each = λ i path at. subst (λ m. IsPath m (agent_of t i).body path) (let e : 0 + i ≡ i = omega arith in e) (are.1 i path at) },
+      slice_get_within (combinations_of t) listed.0 found.0 listed.1,
+      get_or_from_slice_get (combinations_of t) listed.0 found.0 found.0 listed.1,
       omega (arith, many, found.2),
     )
 
@@ -175,7 +184,9 @@ accesses_few n (a ∷ agents) d (p ∷ paths) same each =
     omega (arith, short, later, length-append p.events (accesses_on paths))
 
 pub few_events : (t : Litmus) → longest_of t.agents ≤ ACCESS_LIMIT → HasFewEvents t
-few_events t few paths combined =
+few_events t few c d inside =
+    let paths : List Path = get_or (combinations_of t) c d in
+    let combined = combinations_of-known t c paths (slice_get-get_or (combinations_of t) c d inside) in
     omega (
       arith,
       few,

@@ -10,7 +10,8 @@ use Rattle.lit_paths.specs.declared.limits.TheConstants.{COMBINATION_LIMIT, CHOI
 use Rattle.lit_paths.specs.Choice.{sources_of, combinations_of, choices_of, choices_on, candidates_of}
 use Rattle.lit_paths.specs.declared.planning.Plan.TheInside.{Inside}
 use Rattle.lit_paths.specs.Path.{Step}
-use Rattle.lit_paths.specs.Plan.{events_in, choices_before, walk_in, AreEventsIn, IsOfCombination, IsWalkIn, ListsCandidates}
+use Rattle.lit_paths.specs.Plan.{events_in, choices_before, walk_in, AreEventsIn, IsOfCombination, IsWalkIn}
+use Rattle.lit_paths.specs.Members.{ListsCandidates}
 use Rattle.lit_paths.specs.declared.event.Event.{Event}
 use Rattle.lit_paths.specs.Event.{no_event}
 use Rattle.lit_paths.specs.Internal.Planned.{IsPlanned}

@@ -7,11 +7,13 @@ use Rattle.std.proofs.lemmas.Option.{slice_get-get_or}
 use Rattle.lit_syntax.specs.declared.limits.TheConstants.{REGISTERS}
 use Rattle.lit_syntax.specs.Syntax.{Statement, Statements, Load, Store, Exchange, CompareExchange, If, Then, End, Litmus, agent_of}
 use Rattle.lit_paths.specs.declared.event.Event.{Event}
-use Rattle.lit_paths.specs.Path.{Path, Step, LoadMet, CompareExchangeMet, IfMet, IsStatementWalk, IsWalk, IsPath, path_on}
+use Rattle.lit_paths.specs.Path.{Path, Step, LoadMet, CompareExchangeMet, IfMet, path_on}
+use Rattle.lit_paths.specs.Members.{IsStatementWalk, IsWalk, IsPath, IsChoice, AreCombined, AreSources}
 use Rattle.lit_paths.specs.Run.{Run, IsRun, AgreesWith, compares, run_path}
-use Rattle.lit_paths.specs.Choice.{Choice, IsChoice, AreCombined, AreSources, events_of}
+use Rattle.lit_paths.specs.Choice.{Choice, events_of}
 use Rattle.lit_paths.specs.Execution.{Execution, execution_choice, IsCandidateExecution}
-use Rattle.lit_paths.proofs.PathLists.{IsPath-only}
+use Rattle.lit_paths.proofs.PathLists.{IsPath-only, run-path}
+use Rattle.lit_paths.proofs.ChoiceLists.{execution-sources}
 use Rattle.lit_paths.proofs.Rising.{slice_get-map-known}
 
 abbrev pub no_path : Path
@@ -32,10 +34,10 @@ execution-is_choice t x is =
         one_each = length-map x.runs run_path ∙ is.one_each;
         each = λ i path at.
             let from = slice_get-map-known run_path x.runs i path at in
-            subst (λ (p : Path). IsPath i (agent_of t i).body p) from.2 (is.each i from.0 from.1).path;
+            subst (λ (p : Path). IsPath i (agent_of t i).body p) from.2 (run-path i (agent_of t i).body from.0 (is.each i from.0 from.1));
       };
       decided = decided;
-      sourced = subst (λ (ess : List (List Event)). AreSources (events_of t.bytes ess) x.sources) (sym made) is.sourced;
+      sourced = subst (λ (ess : List (List Event)). AreSources (events_of t.bytes ess) x.sources) (sym made) (execution-sources t x is);
     }
   where
     maps : {B : Type 0} (f : Path → B) (runs : List Run) → map f (map run_path runs) ≡ map (λ (r : Run). f (run_path r)) runs
@@ -151,14 +153,16 @@ mutual
 
 pub run-decided : (owner : ℕ) (ss : Statements) (r q : Run) → IsRun owner ss r → IsRun owner ss q → r.values ≡ q.values → run_path r ≡ run_path q
 run-decided owner ss r q first second same =
-    let a : List Step = first.path.steps in
-    let b : List Step = second.path.steps in
+    let on = run-path owner ss r first in
+    let other = run-path owner ss q second in
+    let a : List Step = on.steps in
+    let b : List Step = other.steps in
     let none : List Step = [] in
     let p = subst (λ (l : List Step). AgreesWith l (replicate REGISTERS 0) r.values r.registers) (sym (append-nil a)) first.agrees in
     let s = subst (λ (l : List Step). AgreesWith l (replicate REGISTERS 0) q.values q.registers) (sym (append-nil b)) second.agrees in
     let also = subst (λ (vs : List ℕ). AgreesWith (b ++ none) (replicate REGISTERS 0) vs q.registers) (sym same) s in
-    let one = walk-goes_on ss a b none none (replicate REGISTERS 0) r.values r.registers q.registers first.path.walked second.path.walked p also in
-    sym first.path.taken ∙ ap (path_on owner) one.same ∙ second.path.taken
+    let one = walk-goes_on ss a b none none (replicate REGISTERS 0) r.values r.registers q.registers on.walked other.walked p also in
+    sym on.taken ∙ ap (path_on owner) one.same ∙ other.taken
 
 -- ---- the runs of a choice's executions are on the paths of its combination
 pub runs-on_paths : (t : Litmus) (paths : List Path) (x : Execution) → AreCombined t paths → IsCandidateExecution t x
@@ -177,7 +181,7 @@ runs-on_paths t paths x combined is decided =
     sym (get_or-map (λ (r : Run). r.decisions) x.runs k no_run [] here) ∙ ap (λ (l : List (List ℕ)). get_or l k []) (sym decided)
     ∙ get_or-map (λ (p : Path). p.decisions) paths k no_path [] there in
     get_or-map run_path x.runs k no_run d here
-    ∙ IsPath-only k (agent_of t k).body (run_path run) path run_is.path path_is decisions
+    ∙ IsPath-only k (agent_of t k).body (run_path run) path (run-path k (agent_of t k).body run run_is) path_is decisions
     ∙ get_or_default paths k no_path d there)
 
 -- ---- chosen values and sources belong to one choice at most

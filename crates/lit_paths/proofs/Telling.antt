@@ -7,11 +7,13 @@ use Rattle.lit_syntax.specs.declared.limits.TheConstants.{REGISTERS}
 use Rattle.lit_syntax.specs.Syntax.{Statements, AreStatementsIn}
 use Rattle.lit_paths.specs.declared.event.Event.{Event}
 use Rattle.lit_paths.specs.declared.path.Tested.{Tested}
-use Rattle.lit_paths.specs.Path.{Path, Step, LoadMet, StoreMet, ExchangeMet, CompareExchangeMet, IfMet, IsWalk, compare_exchange_event, events_on, path_on}
+use Rattle.lit_paths.specs.Path.{Path, Step, LoadMet, StoreMet, ExchangeMet, CompareExchangeMet, IfMet, compare_exchange_event, events_on, path_on}
+use Rattle.lit_paths.specs.Members.{IsWalk}
 use Rattle.lit_paths.specs.PathModel.{PathModel, asked, path_model}
 use Rattle.lit_paths.specs.Run.{Run, IsRun, AgreesWith, compares, run_path}
 use Rattle.lit_paths.specs.Told.{read_places, chosen_on, value_at, value_on, is_true_of, TellsRuns}
 use Rattle.lit_paths.proofs.Walks.{walk-decided}
+use Rattle.lit_paths.proofs.PathLists.{run-path, walks_of-iff}
 use Rattle.lit_paths.proofs.PathSteps.{guards_from, last_from, path_model-tests, path_model-last, walk-registers}
 
 -- ---- registers
@@ -206,8 +208,9 @@ whole owner steps = record { events = events_on owner 0 steps; tests = guards_fr
 run-agreed : (owner : ℕ) (ss : Statements) (steps : List Step) → IsWalk ss steps → (run : Run) → IsRun owner ss run → run_path run ≡ path_on owner steps
     → Agreed (chosen_on (events_on owner 0 steps) run.values) (guards_from 0 (replicate REGISTERS None) steps) (last_from 0 (replicate REGISTERS None) steps) (read_places (events_on owner 0 steps)) run.values run.registers
 run-agreed owner ss steps walked run is on =
-    let same : is.path.steps ≡ steps = walk-decided ss is.path.steps steps is.path.walked walked
-    (ap (λ (p : Path). p.decisions) is.path.taken ∙ ap (λ (p : Path). p.decisions) on) in
+    let path = run-path owner ss run is in
+    let same : path.steps ≡ steps = walk-decided ss path.steps steps path.walked walked
+    (ap (λ (p : Path). p.decisions) path.taken ∙ ap (λ (p : Path). p.decisions) on) in
     let chosen = chosen_on (events_on owner 0 steps) run.values in
     agrees-tells owner 0 steps chosen (replicate REGISTERS None) (replicate REGISTERS 0) run.values run.registers (zeros chosen REGISTERS)
     (looks-all 0 chosen (places-from owner 0 steps run.values))
@@ -219,7 +222,9 @@ tells-whole owner ss steps walked = record {
   run = λ values long true_of.
       let chosen = chosen_on (events_on owner 0 steps) values in
       record {
-        path = record { steps = steps; walked = walked; taken = refl };
+        steps = steps;
+        walked = (walks_of-iff ss steps).1 walked;
+        taken = refl;
         agrees = tells-agrees owner 0 steps chosen (replicate REGISTERS None) (replicate REGISTERS 0) values (zeros chosen REGISTERS)
             (looks-all 0 chosen (places-from owner 0 steps values)) long true_of;
       };
@@ -237,4 +242,5 @@ tells_runs bytes owner ss steps said walked =
 
 pub one_value_each : (owner : ℕ) (ss : Statements) (run : Run) → IsRun owner ss run → length run.values ≡ length (read_places run.events)
 one_value_each owner ss run is =
-    (tells-whole owner ss is.path.steps is.path.walked).one_each run is (sym is.path.taken) ∙ ap (λ (p : Path). length (read_places p.events)) is.path.taken
+    let path = run-path owner ss run is in
+    (tells-whole owner ss path.steps path.walked).one_each run is (sym path.taken) ∙ ap (λ (p : Path). length (read_places p.events)) path.taken

@@ -8,7 +8,8 @@ use Rattle.lit_paths.specs.Event.{event_at, init_event, no_event, does_read, doe
 use Rattle.lit_paths.specs.declared.limits.TheConstants.{CANDIDATE_LIMIT}
 use Rattle.lit_paths.specs.Path.{Path}
 use Rattle.lit_paths.specs.ByteReads.{byte_reads, pair_of}
-use Rattle.lit_paths.specs.Choice.{Choice, AreSources, candidates_of, is_candidate, sources_of, combinations_of, choices_on, choices_of, product}
+use Rattle.lit_paths.specs.Choice.{Choice, candidates_of, is_candidate, sources_of, combinations_of, choices_on, choices_of, product}
+use Rattle.lit_paths.specs.Members.{AreSources}
 use Rattle.lit_paths.specs.Plan.{combination_at, events_in, choices_before, AreEventsIn, IsOfCombination, HasSources}
 use Rattle.lit_paths.proofs.Products.{slice_get_left, slice_get_right, product-some, AreSome-map}
 use Rattle.lit_paths.proofs.Rising.{slice_get-map-found}

@@ -8,7 +8,8 @@ use Rattle.std.proofs.lemmas.Bool.{cases_order, cases_lt}
 use Rattle.std.proofs.lemmas.List.{length-map}
 use Rattle.std.proofs.lemmas.Option.{slice_get_within}
 use Rattle.lit_syntax.specs.Syntax.{Statement, Statements, Load, Store, Exchange, CompareExchange, If, End, Then}
-use Rattle.lit_paths.specs.Path.{Step, LoadMet, StoreMet, ExchangeMet, CompareExchangeMet, IfMet, IsStatementWalk, IsWalk, decision, decisions_on, statement_walks, walks_of}
+use Rattle.lit_paths.specs.Path.{Step, LoadMet, StoreMet, ExchangeMet, CompareExchangeMet, IfMet, decision, decisions_on, statement_walks, walks_of}
+use Rattle.lit_paths.specs.Members.{IsStatementWalk, IsWalk}
 use Rattle.lit_paths.proofs.Products.{slice_get_left, slice_get_right}
 use Rattle.lit_paths.proofs.Rising.{RisesBy, slice_get-map-known, slice_get-map-found, map-rises, append-rises, flat_map-known, flat_map-found, flat_map-rises, nat_cmp-less, nat_cmp-same}
 

@@ -1,9 +1,9 @@
 -- Candidate executions (ECMA-262, 2024, 29.4).
-use Rattle.std.specs.Prelude.{◌≡◌, ℕ, List, length, map, Some, slice_get}
+use Rattle.std.specs.Prelude.{◌≡◌, ℕ, List, Contains, length, map, Some, slice_get}
 use Rattle.lit_syntax.specs.Syntax.{Litmus, agent_of}
 use Rattle.lit_paths.specs.declared.event.Event.{Event}
 use Rattle.lit_paths.specs.Run.{Run, IsRun}
-use Rattle.lit_paths.specs.Choice.{Choice, events_of, AreSources}
+use Rattle.lit_paths.specs.Choice.{Choice, events_of, sources_of}
 use Rattle.lit_paths.specs.Outcome.{outcome_of}
 
 -- a run for each agent, and the source of each byte read
@@ -23,7 +23,8 @@ execution_choice x = record { decisions = map (λ run. run.decisions) x.runs; so
 abbrev pub execution_outcome : Litmus → Execution → List ℕ
 execution_outcome t x = outcome_of t (map (λ run. run.registers) x.runs)
 
+-- a run of each agent, and sources that the byte reads can have
 pub record IsCandidateExecution (t : Litmus) (x : Execution) : Type 0 where
   pub one_each : length x.runs ≡ length t.agents
   pub each : (i : ℕ) (run : Run) → slice_get x.runs i ≡ Some run → IsRun i (agent_of t i).body run
-  pub sourced : AreSources (execution_events t x) x.sources
+  pub sourced : Contains (sources_of (execution_events t x)) x.sources

@@ -5,9 +5,11 @@ pub mod StatementNumbers
 pub mod Run
 pub mod ByteReads
 pub mod Choice
+pub mod Members
 pub mod Outcome
 pub mod Execution
 pub mod Told
+pub mod Refusal
 pub mod Plan
 pub mod FaultNames
 pub mod Numbers

@@ -5,7 +5,8 @@ use Rattle.std.specs.Prelude.{◌++◌, length, map, drop, Some, slice_get}
 use Rattle.lit_syntax.specs.Syntax.{Litmus}
 use Rattle.lit_paths.specs.declared.event.Event.{Event}
 use Rattle.lit_paths.specs.ByteReads.{byte_reads, byte_read_at}
-use Rattle.lit_paths.specs.Choice.{AreCandidates, Choice, candidates_of, choices_of}
+use Rattle.lit_paths.specs.Choice.{Choice, candidates_of, choices_of}
+use Rattle.lit_paths.specs.Members.{AreCandidates}
 use Rattle.lit_paths.specs.Plan.{combination_at, events_in, choices_before}
 
 -- the product of the lengths of lists

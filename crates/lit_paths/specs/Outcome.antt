@@ -1,8 +1,8 @@
 -- The outcome of an execution: the last value of each register that is written anywhere in its agent's text, and the
 -- value of the condition on it (this project's own).
-use Rattle.std.specs.Prelude.{ℕ, ◌+◌, ◌==◌, Bool, true, false, cond, not, ◌&&◌, ◌||◌, List}
-use Rattle.std.specs.Prelude.{[], ◌∷◌, ◌++◌, map, filter, slice_index, slice_index_or}
-use Rattle.std.specs.List.{range_with_len, zip}
+use Rattle.std.specs.Prelude.{ℕ, ◌==◌, Bool, true, false, cond, not, ◌&&◌, ◌||◌, List}
+use Rattle.std.specs.Prelude.{[], ◌∷◌, map, filter, slice_index, slice_index_or}
+use Rattle.std.specs.List.{enumerate_from, flat_map, range_with_len, zip}
 use Rattle.lit_syntax.specs.declared.limits.TheConstants.{REGISTERS}
 use Rattle.lit_syntax.specs.Syntax.{Litmus, Agent, writes, Condition, Conditions, Any, All, Not, Is, NoMore, Also}
 
@@ -10,13 +10,13 @@ use Rattle.lit_syntax.specs.Syntax.{Litmus, Agent, writes, Condition, Conditions
 abbrev pub names_in : ℕ → Agent → List (ℕ × ℕ)
 names_in n agent = map (λ reg. (n, reg)) (filter (writes agent.body) (range_with_len 0 REGISTERS))
 
-abbrev pub names_from : ℕ → List Agent → List (ℕ × ℕ)
-names_from n [] = []
-names_from n (a ∷ agents) = names_in n a ++ names_from (n + 1) agents
-
 -- the registers of an outcome, as agent and register: agents in order, registers rising
 abbrev pub names_of : Litmus → List (ℕ × ℕ)
-names_of t = names_from 0 t.agents
+names_of t = flat_map (λ agent. names_in agent.0 agent.1) (enumerate_from 0 t.agents)
+
+-- those of agents of which the first has number n
+abbrev pub names_from : ℕ → List Agent → List (ℕ × ℕ)
+names_from n agents = flat_map (λ agent. names_in agent.0 agent.1) (enumerate_from n agents)
 
 -- the outcome where each agent's registers hold these values at the end
 abbrev pub outcome_of : Litmus → List (List ℕ) → List ℕ
@@ -36,10 +36,12 @@ abbrev mutual
   holds values (Is agent reg true value) = value_in values agent reg == value
   holds values (Is agent reg false value) = not (value_in values agent reg == value)
 
+  -- whether one of these holds
   pub any_holds : List ((ℕ × ℕ) × ℕ) → Conditions → Bool
   any_holds values NoMore = false
   any_holds values (Also c cs) = holds values c || any_holds values cs
 
+  -- whether each of these holds
   pub all_hold : List ((ℕ × ℕ) × ℕ) → Conditions → Bool
   all_hold values NoMore = true
   all_hold values (Also c cs) = holds values c && all_hold values cs

@@ -1,10 +1,11 @@
 -- The paths of an agent through its text, and the events that each makes (ECMA-262, 2024, 25.1.3, 25.4 and 29.2; that a
 -- path may go either way at a decision is this project's own).
-use Rattle.std.specs.Prelude.{◌≡◌, ◌⊎◌, ℕ, ◌+◌, ◌*◌, ◌/◌, ◌%◌, Bool, true, false, not}
+use Rattle.std.specs.Prelude.{ℕ, ◌+◌, ◌*◌, ◌/◌, ◌%◌, Bool, true, false, not}
 use Rattle.std.specs.Prelude.{if◌then◌else◌, Some, List, [], ◌∷◌, ◌++◌, map}
 use Rattle.std.specs.List.{flat_map}
 use Rattle.lit_syntax.specs.Syntax.{Window, window_size, is_data_view, Statement, Statements}
 use Rattle.lit_syntax.specs.Syntax.{Load, Store, Exchange, CompareExchange, If, End, Then}
+use Rattle.lit_paths.specs.declared.event.Kind.{Kind}
 use Rattle.lit_paths.specs.declared.event.Kind.TheVariants.{Read, Write, Modify}
 use Rattle.lit_paths.specs.declared.event.Order3.{Order3}
 use Rattle.lit_paths.specs.declared.event.Order3.TheVariants.{SeqCst, Unordered}
@@ -23,37 +24,11 @@ first_byte window index = if is_data_view window then index else index * window_
 abbrev pub payload_of : ℕ → List ℕ
 payload_of value = value % 256 ∷ value / 256 % 256 ∷ value / 65536 % 256 ∷ value / 16777216 % 256 ∷ []
 
--- what a load makes
-abbrev pub read_event : ℕ → ℕ → Window → ℕ → Bool → Event
-read_event owner place window index atomic = record {
-  kind = Read;
+-- what an access makes; one that stores nothing has the value 0
+abbrev pub access_event : Kind → (owner place : ℕ) → Window → (index value : ℕ) → (atomic : Bool) → Event
+access_event kind owner place window index value atomic = record {
+  kind = kind;
   order = order_of atomic;
-  no_tear = not (is_data_view window);
-  first = first_byte window index;
-  size = window_size window;
-  payload = 0 ∷ 0 ∷ 0 ∷ 0 ∷ [];
-  owner = Some owner;
-  place = place;
-}
-
--- what a store makes
-abbrev pub write_event : ℕ → ℕ → Window → ℕ → ℕ → Bool → Event
-write_event owner place window index value atomic = record {
-  kind = Write;
-  order = order_of atomic;
-  no_tear = not (is_data_view window);
-  first = first_byte window index;
-  size = window_size window;
-  payload = payload_of value;
-  owner = Some owner;
-  place = place;
-}
-
--- what an exchange makes, and a compareExchange that succeeds
-abbrev pub modify_event : ℕ → ℕ → Window → ℕ → ℕ → Event
-modify_event owner place window index value = record {
-  kind = Modify;
-  order = SeqCst;
   no_tear = not (is_data_view window);
   first = first_byte window index;
   size = window_size window;
@@ -71,22 +46,6 @@ pub data Step : Type 0 where
   CompareExchangeMet : (reg : ℕ) → (window : Window) → (index expected value : ℕ) → (succeeds : Bool) → Step
   IfMet : (reg : ℕ) → (equal : Bool) → (value : ℕ) → (holds : Bool) → Step
 
--- the steps lead through the statement, or the statements, either way at each decision
-abbrev mutual
-  pub IsStatementWalk : Statement → List Step → Type 0
-  IsStatementWalk (Load reg window index atomic) steps = steps ≡ LoadMet reg window index atomic ∷ []
-  IsStatementWalk (Store window index value atomic) steps = steps ≡ StoreMet window index value atomic ∷ []
-  IsStatementWalk (Exchange reg window index value) steps = steps ≡ ExchangeMet reg window index value ∷ []
-  IsStatementWalk (CompareExchange reg window index expected value) steps =
-      (succeeds : Bool) × (steps ≡ CompareExchangeMet reg window index expected value succeeds ∷ [])
-  IsStatementWalk (If reg equal value body other) steps =
-      ((arm : List Step) × (steps ≡ IfMet reg equal value true ∷ arm) × IsWalk body arm)
-      ⊎ ((arm : List Step) × (steps ≡ IfMet reg equal value false ∷ arm) × IsWalk other arm)
-
-  pub IsWalk : Statements → List Step → Type 0
-  IsWalk End steps = steps ≡ []
-  IsWalk (Then s ss) steps = (first rest : List Step) × (steps ≡ first ++ rest) × IsStatementWalk s first × IsWalk ss rest
-
 -- a decision as a number: 0 where the compareExchange succeeds or the then-part is walked, else 1
 abbrev pub decision : Bool → ℕ
 decision true = 0
@@ -103,18 +62,18 @@ decisions_on (IfMet reg equal value holds ∷ steps) = decision holds ∷ decisi
 
 -- what a compareExchange makes: a read-modify-write of the replacement where it succeeds, else a read
 abbrev pub compare_exchange_event : ℕ → ℕ → Window → ℕ → ℕ → Bool → Event
-compare_exchange_event owner place window index value true = modify_event owner place window index value
-compare_exchange_event owner place window index value false = read_event owner place window index true
+compare_exchange_event owner place window index value true = access_event Modify owner place window index value true
+compare_exchange_event owner place window index value false = access_event Read owner place window index 0 true
 
 -- the events made on the way, of which the first gets this place; an `if` makes none
 abbrev pub events_on : ℕ → ℕ → List Step → List Event
 events_on owner place [] = []
 events_on owner place (LoadMet reg window index atomic ∷ steps) =
-    read_event owner place window index atomic ∷ events_on owner (place + 1) steps
+    access_event Read owner place window index 0 atomic ∷ events_on owner (place + 1) steps
 events_on owner place (StoreMet window index value atomic ∷ steps) =
-    write_event owner place window index value atomic ∷ events_on owner (place + 1) steps
+    access_event Write owner place window index value atomic ∷ events_on owner (place + 1) steps
 events_on owner place (ExchangeMet reg window index value ∷ steps) =
-    modify_event owner place window index value ∷ events_on owner (place + 1) steps
+    access_event Modify owner place window index value true ∷ events_on owner (place + 1) steps
 events_on owner place (CompareExchangeMet reg window index expected value succeeds ∷ steps) =
     compare_exchange_event owner place window index value succeeds ∷ events_on owner (place + 1) steps
 events_on owner place (IfMet reg equal value holds ∷ steps) = events_on owner place steps
@@ -128,13 +87,7 @@ pub record Path : Type 0 where
 abbrev pub path_on : ℕ → List Step → Path
 path_on owner steps = record { decisions = decisions_on steps; events = events_on owner 0 steps }
 
--- a path of an agent
-pub record IsPath (owner : ℕ) (body : Statements) (path : Path) : Type 0 where
-  pub steps : List Step
-  pub walked : IsWalk body steps
-  pub taken : path_on owner steps ≡ path
-
--- every way through a statement, or through statements, by rising decisions
+-- every way through a statement, by rising decisions
 abbrev mutual
   pub statement_walks : Statement → List (List Step)
   statement_walks (Load reg window index atomic) = (LoadMet reg window index atomic ∷ []) ∷ []
@@ -145,6 +98,7 @@ abbrev mutual
   statement_walks (If reg equal value body other) =
       map (λ arm. IfMet reg equal value true ∷ arm) (walks_of body) ++ map (λ arm. IfMet reg equal value false ∷ arm) (walks_of other)
 
+  -- every way through statements, one after the other
   pub walks_of : Statements → List (List Step)
   walks_of End = [] ∷ []
   walks_of (Then s ss) = flat_map (λ first. map (λ rest. first ++ rest) (walks_of ss)) (statement_walks s)

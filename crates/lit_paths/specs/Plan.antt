@@ -1,41 +1,24 @@
--- What a plan says of a test: the combinations of paths and the events of each, when a test is refused, and which
+-- What a plan says of a test: the combinations of paths and the events of each, when planning fails, and which
 -- combination a choice is of (this project's own).
 use Rattle.std.specs.Prelude.{◌≡◌, ◌≢◌, ◌⊎◌, ℕ, ◌+◌, ◌<◌, ◌≤◌, All, IsSome, List, []}
 use Rattle.std.specs.Prelude.{length, map, take, Some, slice_get, slice_index_or}
 use Rattle.std.specs.List.{flat_map}
 use Rattle.lit_syntax.specs.Syntax.{Litmus, AreStatementsIn, agent_of}
-use Rattle.lit_paths.specs.declared.limits.TheConstants.{ACCESS_LIMIT, EVENT_LIMIT, BYTE_READ_LIMIT, COMBINATION_LIMIT, CHOICE_LIMIT}
+use Rattle.lit_paths.specs.declared.limits.TheConstants.{ACCESS_LIMIT, EVENT_LIMIT, BYTE_READ_LIMIT, COMBINATION_LIMIT}
 use Rattle.lit_paths.specs.declared.event.Event.{Event}
 use Rattle.lit_paths.specs.declared.event.Order3.TheVariants.{Init}
 use Rattle.lit_paths.specs.declared.path.Tested.{Tested}
 use Rattle.lit_paths.specs.declared.fault.PlanFault.{PlanFault}
 use Rattle.lit_paths.specs.declared.fault.PlanFault.TheVariants.{TooManyEvents, TooManyPaths, TooManyChoices, OutOfMemory}
 use Rattle.lit_paths.specs.Event.{event_at, init_event}
-use Rattle.lit_paths.specs.Path.{Path, Step, IsWalk, walks_of, decisions_on, path_on}
+use Rattle.lit_paths.specs.Path.{Path, Step, walks_of, decisions_on, path_on}
+use Rattle.lit_paths.specs.Members.{IsWalk, AreSources}
+use Rattle.lit_paths.specs.Refusal.{accesses_on, HasFewEvents, IsRefusal}
 use Rattle.lit_paths.specs.PathModel.{PathModel, IsReadAt, last_read, guards_on, path_model}
 use Rattle.lit_paths.specs.Run.{run_path}
-use Rattle.lit_paths.specs.ByteReads.{byte_reads, IsCandidate}
-use Rattle.lit_paths.specs.Choice.{Choice, AreCombined, AreSources, events_of, product, choices_on, combinations_of, choices_of}
+use Rattle.lit_paths.specs.ByteReads.{byte_reads}
+use Rattle.lit_paths.specs.Choice.{Choice, events_of, product, choices_on, combinations_of, choices_of}
 use Rattle.lit_paths.specs.Execution.{Execution, execution_choice, IsCandidateExecution}
-
--- the events of the accesses on a combination of paths: agents in order
-abbrev pub accesses_on : List Path → List Event
-accesses_on paths = flat_map (λ events. events) (map (λ path. path.events) paths)
-
--- some combination of paths has more access events than are allowed
-abbrev pub HasTooManyEvents : Litmus → Type 0
-HasTooManyEvents t = (paths : List Path) × AreCombined t paths × (ACCESS_LIMIT < length (accesses_on paths))
-
--- each combination of paths has as many access events as are allowed
-abbrev pub HasFewEvents : Litmus → Type 0
-HasFewEvents t = (paths : List Path) → AreCombined t paths → length (accesses_on paths) ≤ ACCESS_LIMIT
-
--- when a test is refused: of several refusals the first decides
-abbrev pub IsRefusal : Litmus → PlanFault → Type 0
-IsRefusal t TooManyEvents = HasTooManyEvents t
-IsRefusal t TooManyPaths = HasFewEvents t × (COMBINATION_LIMIT < length (combinations_of t))
-IsRefusal t TooManyChoices = HasFewEvents t × (length (combinations_of t) ≤ COMBINATION_LIMIT) × (CHOICE_LIMIT < length (choices_of t))
-IsRefusal t OutOfMemory = ⊥
 
 -- The test is refused, or memory ran out. The first two refusals come before any growth.
 abbrev pub IsPlanFault : Litmus → PlanFault → Type 0
@@ -117,9 +100,3 @@ pub record IsWalkIn (t : Litmus) (c agent : ℕ) (steps : List Step) : Type 0 wh
   pub within : first_event t c agent + length (path_on agent steps).events ≤ length (events_in t c)
   pub numbered : (place : ℕ) → place < length (path_on agent steps).events
       → event_at (events_in t c) (first_event t c agent + place) ≡ event_at (path_on agent steps).events place
-
--- exactly the candidates of a byte of a read, rising
-pub record ListsCandidates (events : List Event) (r b : ℕ) (candidates : List ℕ) : Type 0 where
-  pub only : (k w : ℕ) → slice_get candidates k ≡ Some w → IsCandidate events r b w
-  pub all : (w : ℕ) → IsCandidate events r b w → (k : ℕ) × (slice_get candidates k ≡ Some w)
-  pub rising : (i j v w : ℕ) → i < j → slice_get candidates i ≡ Some v → slice_get candidates j ≡ Some w → v < w

@@ -1,10 +1,10 @@
 -- A run of an agent: chosen values, one for each reading statement met (ECMA-262, 2024, 29.3), the path on which
 -- every decision agrees with them, and what its registers hold at the end (registers are this project's own).
-use Rattle.std.specs.Prelude.{◌≡◌, ℕ, ◌==◌, Bool, true, false, not, List, [], ◌∷◌, replicate, slice_index, slice_set}
+use Rattle.std.specs.Prelude.{◌≡◌, ℕ, ◌==◌, Bool, true, false, not, List, [], ◌∷◌, Contains, replicate, slice_index, slice_set}
 use Rattle.lit_syntax.specs.declared.limits.TheConstants.{REGISTERS}
 use Rattle.lit_syntax.specs.Syntax.{Statements}
 use Rattle.lit_paths.specs.declared.event.Event.{Event}
-use Rattle.lit_paths.specs.Path.{Step, LoadMet, StoreMet, ExchangeMet, CompareExchangeMet, IfMet, Path, IsPath}
+use Rattle.lit_paths.specs.Path.{Step, LoadMet, StoreMet, ExchangeMet, CompareExchangeMet, IfMet, Path, path_on, walks_of}
 
 -- whether two numbers are equal, or with `false`, whether they differ
 abbrev pub compares : Bool → ℕ → ℕ → Bool
@@ -27,6 +27,7 @@ AgreesWith (CompareExchangeMet reg window index expected stored succeeds ∷ ste
 AgreesWith (IfMet reg equal value holds ∷ steps) before values after =
     (holds ≡ compares equal (slice_index before reg) value) × AgreesWith steps before values after
 
+-- the values chosen, and the path on which they are
 pub record Run : Type 0 where
   pub values : List ℕ
   pub decisions : List ℕ
@@ -40,5 +41,7 @@ run_path run = record { decisions = run.decisions; events = run.events }
 
 -- A path of the agent, and values with which each decision on it agrees. Registers hold 0 until they are written.
 pub record IsRun (owner : ℕ) (body : Statements) (run : Run) : Type 0 where
-  pub path : IsPath owner body (run_path run)
-  pub agrees : AgreesWith path.steps (replicate REGISTERS 0) run.values run.registers
+  pub steps : List Step
+  pub walked : Contains (walks_of body) steps
+  pub taken : path_on owner steps ≡ run_path run
+  pub agrees : AgreesWith steps (replicate REGISTERS 0) run.values run.registers

@@ -1,13 +1,15 @@
 //! Laws of the definitions that the contracts cite. The functions do nothing: their contracts are theorems.
 
-ghost use Rattle.std.specs.Prelude.{◌≡◌, ℕ, ◌+◌, ◌<◌, ◌≤◌, List, length, map, Some, slice_get};
+ghost use Rattle.std.specs.Prelude.{◌≡◌, ◌↔◌, ℕ, ◌+◌, ◌<◌, ◌≤◌, List, Contains, length, map, Some, slice_get};
 ghost use Rattle.lit_syntax.specs.Syntax.{Litmus, IsLitmus, Statements, AreStatementsIn};
 ghost use Rattle.lit_syntax.specs.Forms.{StatementLine};
 ghost use Rattle.lit_syntax.specs.StatementOrder.{statements_begun};
-ghost use Rattle.lit_paths.specs.Choice.{IsChoice, ListsChoices, ListsCombinations, combinations_of};
+ghost use Rattle.lit_paths.specs.declared.event.Event.{Event};
+ghost use Rattle.lit_paths.specs.Choice.{combinations_of, sources_of};
 ghost use Rattle.lit_paths.specs.Execution.{Execution, execution_choice, IsCandidateExecution};
+ghost use Rattle.lit_paths.specs.Members.{AreSources, IsChoice, IsWalk, ListsChoices, ListsCombinations};
 ghost use Rattle.lit_paths.specs.Numbers.{NumbersChoices};
-ghost use Rattle.lit_paths.specs.Path.{Step, IsWalk, path_on};
+ghost use Rattle.lit_paths.specs.Path.{Step, path_on, walks_of};
 ghost use Rattle.lit_paths.specs.PathModel.{access_count, path_model};
 ghost use Rattle.lit_paths.specs.Plan.{choices_before, walk_in, IsOfCombination, IsWalkIn};
 ghost use Rattle.lit_paths.specs.Run.{Run, IsRun};
@@ -24,6 +26,13 @@ pub fn choices_are_listed()
 /// strictly by the paths' decisions.
 pub fn combinations_are_listed()
     ensures { (t : Litmus) → ListsCombinations t }
+{}
+
+/// The list of the walks through statements has exactly the walks, and the list of the sources that byte reads can have exactly
+/// these sources.
+pub fn walks_and_sources_are_listed()
+    ensures walks { (body : Statements) (steps : List Step) → Contains (walks_of body) steps ↔ IsWalk body steps }
+    ensures sources { (events : List Event) (sources : List ℕ) → Contains (sources_of events) sources ↔ AreSources events sources }
 {}
 
 /// The choices on a combination that begin with given sources have a run of numbers, whose length is the product of the

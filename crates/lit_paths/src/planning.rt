@@ -13,7 +13,8 @@ ghost use Rattle.lit_paths.specs.declared.limits.TheConstants.{CHOICE_LIMIT, COM
 ghost use Rattle.lit_paths.specs.Event.{event_at};
 ghost use Rattle.lit_paths.specs.Outcome.{asks as is_asked, names_of, meets as is_met};
 ghost use Rattle.lit_paths.specs.Plan.{events_in, choices_before, path_in, walk_in, AreEventsIn};
-ghost use Rattle.lit_paths.specs.Plan.{HasSources, IsOfCombination, IsWalkIn, ListsCandidates};
+ghost use Rattle.lit_paths.specs.Plan.{HasSources, IsOfCombination, IsWalkIn};
+ghost use Rattle.lit_paths.specs.Members.{ListsCandidates};
 
 use crate::byte_reads::{ByteRead, Candidates, candidates_of};
 use crate::combination::Combination;

@@ -2,7 +2,8 @@
 use Rattle.std.proofs.Common.{◌≡◌, ℕ, List, ◌++◌, append_assoc, codes, inl, inr, ap, subst, sym, ◌∙◌}
 use Rattle.std.proofs.lemmas.Option.{same_Some}
 use Rattle.lit_syntax.specs.Syntax.{IsLitmus, Litmus}
-use Rattle.lit_paths.specs.Choice.{AreSources, Choice}
+use Rattle.lit_paths.specs.Choice.{Choice}
+use Rattle.lit_paths.specs.Members.{AreSources}
 use Rattle.lit_paths.specs.declared.event.Event.{Event}
 use Rattle.lit_rel.specs.Part.{PartModel, part_events}
 use Rattle.lit_valid.specs.Completion.{HasCompletion, IsOnCombination}

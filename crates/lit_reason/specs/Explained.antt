@@ -6,7 +6,7 @@ use Rattle.lit_read.specs.declared.fault.ReadFault.{ReadFault}
 use Rattle.lit_read.specs.Spelling.{Spells}
 use Rattle.lit_paths.specs.Choice.{combinations_of, choices_of}
 use Rattle.lit_paths.specs.declared.limits.TheConstants.{COMBINATION_LIMIT, CHOICE_LIMIT}
-use Rattle.lit_paths.specs.Plan.{HasFewEvents, IsRefusal}
+use Rattle.lit_paths.specs.Refusal.{HasFewEvents, IsRefusal}
 use Rattle.lit_paths.specs.declared.fault.PlanFault.{PlanFault}
 use Rattle.lit_reason.specs.AnswerText.{IsTextOn}
 use Rattle.lit_reason.specs.OtherCondition.{IsAskedAbout, IsTextWith}

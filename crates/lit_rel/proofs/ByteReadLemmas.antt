@@ -7,7 +7,7 @@ use Rattle.lit_paths.specs.declared.event.Event.{Event}
 use Rattle.lit_paths.specs.ByteReads.{byte_reads, byte_reads_from, bytes_read_by}
 use Rattle.lit_paths.proofs.Rising.{RisesBy, append-rises}
 use Rattle.lit_rel.specs.declared.given.SourcedByte.{SourcedByte}
-use Rattle.lit_rel.specs.InitReads.{AreOfEvents}
+use Rattle.lit_rel.specs.ByteReadList.{AreOfEvents}
 use Rattle.lit_rel.specs.Internal.Given.{AreFirstReads, read_of}
 use Rattle.lit_rel.proofs.SourceLemmas.{read_byte, read_from, read_here, read_place}
 

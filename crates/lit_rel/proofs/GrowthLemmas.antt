@@ -7,9 +7,7 @@ use Rattle.std.specs.List.{slice_get, zip}
 use Rattle.lit_paths.specs.declared.event.Event.{Event}
 use Rattle.lit_paths.specs.ByteReads.{byte_reads}
 use Rattle.lit_paths.specs.Event.{event_at, payload_at}
-use Rattle.lit_rel.specs.Coherent.{HasCoherentReadsBy}
-use Rattle.lit_rel.specs.Forbidden.{IsForbiddenBy}
-use Rattle.lit_rel.specs.Growth.{GivenBy, GrowWithBytes, Grows, IsGivenWholeBy, ValuesStay}
+use Rattle.lit_rel.specs.Growth.{HasCoherentReadsBy, IsForbiddenBy, GivenBy, GrowWithBytes, Grows, IsGivenWholeBy, ValuesStay}
 use Rattle.lit_rel.specs.HappensBefore.{HappensBeforeBy, StepBy}
 use Rattle.lit_rel.specs.ReadsFrom.{ReadsByteFrom, ReadsFromBy, composed, value_of}
 use Rattle.lit_rel.specs.SynchronizesWith.{SynchronizesBy}

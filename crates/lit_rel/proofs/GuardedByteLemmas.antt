@@ -14,7 +14,7 @@ use Rattle.lit_paths.specs.Path.{payload_of}
 use Rattle.lit_paths.specs.Plan.{AreEventsIn}
 use Rattle.lit_paths.specs.Run.{compares}
 use Rattle.lit_paths.proofs.Rising.{slice_get-map-found}
-use Rattle.lit_rel.specs.ReadsFrom.{ReadsByteFrom, bytes_of_read, composed, value_of}
+use Rattle.lit_rel.specs.ReadsFrom.{ReadsByteFrom, composed, value_of}
 use Rattle.lit_rel.specs.GuardedBytes.{IsFalseOfByte}
 use Rattle.lit_rel.proofs.OwnByteLemmas.{all_read, only, only_its}
 use Rattle.lit_rel.proofs.SourceLemmas.{read_here, read_known}
@@ -72,6 +72,10 @@ reads_of r (q ∷ reads) (w ∷ sources) long = by (q.0 == r) (reads_of r reads 
         → map (λ (p : (ℕ × ℕ) × ℕ). p.0) (if t then (q, w) ∷ sourced_of r reads sources else sourced_of r reads sources) ≡ (if t then q ∷ only r reads else only r reads)
     by true e = ap (λ (qs : List (ℕ × ℕ)). q ∷ qs) e
     by false e = e
+
+-- the payload byte of each source of read r, by rising byte
+abbrev bytes_of_read : List Event → List ℕ → ℕ → List ℕ
+bytes_of_read events sources r = map (λ p. payload_at (event_at events p.1) p.0.1) (sourced_of r (byte_reads events) sources)
 
 -- ---- in a complete list of sources
 module _ (bytes : ℕ) (events : List Event) (sound : AreEventsIn bytes events) (sources : List ℕ) (complete : length sources ≡ length (byte_reads events)) where

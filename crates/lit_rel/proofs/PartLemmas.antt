@@ -10,7 +10,8 @@ use Rattle.lit_syntax.specs.Syntax.{Litmus}
 use Rattle.lit_paths.specs.declared.event.Event.{Event}
 use Rattle.lit_paths.specs.declared.limits.TheConstants.{BYTE_READ_LIMIT}
 use Rattle.lit_paths.specs.declared.byte_reads.ByteRead.{ByteRead}
-use Rattle.lit_paths.specs.ByteReads.{IsCandidate, byte_reads, pair_of}
+use Rattle.lit_paths.specs.ByteReads.{byte_reads, pair_of}
+use Rattle.lit_paths.specs.Members.{IsCandidate}
 use Rattle.lit_paths.specs.Event.{event_at, no_event}
 use Rattle.lit_paths.specs.Plan.{AreEventsIn, events_in}
 use Rattle.lit_rel.specs.declared.given.SourcedByte.{SourcedByte}

@@ -24,7 +24,7 @@ AreUnguarded-sym : (e d : Event) → AreUnguarded e d → AreUnguarded d e
 AreUnguarded-sym e d (inl first) = inr (inl first)
 AreUnguarded-sym e d (inr (inl second)) = inl second
 AreUnguarded-sym e d (inr (inr overlap)) =
-    inr (inr record { shares = (overlap.shares.0, overlap.shares.2, overlap.shares.1); unequal = λ same. overlap.unequal (same_range_back d e same) })
+    inr (inr ((overlap.0.0, overlap.0.2, overlap.0.1), λ same. overlap.1 (same_range_back d e same)))
 
 pub AreApart-sym : (events : List Event) (before : ℕ → ℕ → Type 0) (e d : ℕ) → AreApart events before e d → AreApart events before d e
 AreApart-sym events before e d apart = let unguarded = AreUnguarded-sym (event_at events e) (event_at events d) apart.unguarded in grind arith
@@ -40,7 +40,7 @@ module _ (events : List Event) (before : ℕ → ℕ → Type 0) where
   pub HasDataRaceOf-iff : (reads : ℕ → ℕ → Type 0) → HasDataRaceOf events before reads ↔ (HasApartPair events before reads ⊎ HasApartPair events before (WritesWith events))
   HasDataRaceOf-iff reads = (
     (λ h.
-        let race = h.is_race.race in
+        let race = h.is_race in
         let apart : AreApart events before h.first h.second = grind arith in
         elim race.conflict [
           | inl writes ↦ inr record { first = h.first; second = h.second; apart = apart; is_pair = writes }

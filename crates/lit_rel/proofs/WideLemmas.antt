@@ -4,9 +4,8 @@ use Rattle.std.proofs.lemmas.Bool.{false≢true}
 use Rattle.std.proofs.lemmas.Option.{none-some, same_Some, some_pair_parts}
 use Rattle.lit_paths.specs.declared.event.Event.{Event}
 use Rattle.lit_paths.specs.declared.event.Order3.TheVariants.{SeqCst}
-use Rattle.lit_paths.specs.Choice.{AreSources}
+use Rattle.lit_paths.specs.Members.{AreSources, IsCandidate}
 use Rattle.lit_paths.specs.Event.{HasSameRange, does_write, event_at}
-use Rattle.lit_paths.specs.ByteReads.{IsCandidate}
 use Rattle.lit_rel.specs.ReadsFrom.{ReadsByteFrom}
 use Rattle.lit_rel.specs.TearFree.{ReadsWholeBy}
 use Rattle.lit_rel.specs.WideEvents.{mixed_sizes, typed_load, viewed_load, MixedSizesNeverSynchronize, TypedLoadMixesWithInitOnly, ViewedLoadMixes}

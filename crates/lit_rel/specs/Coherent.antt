@@ -3,7 +3,7 @@ use Rattle.std.specs.Prelude.{ℕ, IsTrue, List}
 use Rattle.lit_paths.specs.declared.event.Event.{Event}
 use Rattle.lit_paths.specs.Event.{HasByte, does_write, event_at}
 use Rattle.lit_rel.specs.ReadsFrom.{ReadsByteFrom}
-use Rattle.lit_rel.specs.HappensBefore.{HappensBeforeBy}
+use Rattle.lit_rel.specs.HappensBefore.{HappensBefore}
 
 -- v writes byte b after its source w and before its read r
 pub record Hides (events : List Event) (before : ℕ → ℕ → Type 0) (r b w v : ℕ) : Type 0 where
@@ -17,12 +17,7 @@ pub record IsCoherentRead (events : List Event) (before : ℕ → ℕ → Type 0
   pub not_later : ¬ before r w
   pub not_hidden : (v : ℕ) → ¬ Hides events before r b w v
 
--- of each byte that is given a source
-abbrev pub AreCoherentReads : List Event → (ℕ → ℕ → ℕ → Type 0) → (ℕ → ℕ → Type 0) → Type 0
-AreCoherentReads events given before = (r b w : ℕ) → given r b w → IsCoherentRead events before r b w
-
-abbrev pub HasCoherentReadsBy : List Event → (ℕ → ℕ → ℕ → Type 0) → Type 0
-HasCoherentReadsBy events given = AreCoherentReads events given (HappensBeforeBy events given)
-
+-- so is each read, of each byte
 abbrev pub HasCoherentReads : List Event → List ℕ → Type 0
-HasCoherentReads events sources = HasCoherentReadsBy events (ReadsByteFrom events sources)
+HasCoherentReads events sources =
+    (r b w : ℕ) → ReadsByteFrom events sources r b w → IsCoherentRead events (HappensBefore events sources) r b w

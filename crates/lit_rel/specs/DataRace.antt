@@ -4,7 +4,7 @@ use Rattle.std.specs.Prelude.{◌≢◌, ◌⊎◌, ℕ, ◌<◌, IsTrue, List, 
 use Rattle.lit_paths.specs.declared.event.Order3.TheVariants.{SeqCst}
 use Rattle.lit_paths.specs.declared.event.Event.{Event}
 use Rattle.lit_paths.specs.Event.{HasSameRange, SharesByte, does_write, event_at}
-use Rattle.lit_rel.specs.HappensBefore.{HappensBeforeBy}
+use Rattle.lit_rel.specs.HappensBefore.{HappensBefore}
 use Rattle.lit_rel.specs.ReadsFrom.{ReadsByteFrom, ReadsFromBy}
 
 -- both write, and some byte is in both ranges; also events that make the block write
@@ -13,27 +13,19 @@ pub record WriteOneByte (e d : Event) : Type 0 where
   pub second : IsTrue (does_write d.kind)
   pub shares : SharesByte e d
 
--- the ranges share a byte, and are not equal
-pub record HaveOverlap (e d : Event) : Type 0 where
-  pub shares : SharesByte e d
-  pub unequal : ¬ HasSameRange e d
+-- one of the two is not sequentially consistent, or their ranges share a byte and are not equal
+abbrev pub AreUnguarded : Event → Event → Type 0
+AreUnguarded e d = (e.order ≢ SeqCst) ⊎ (d.order ≢ SeqCst) ⊎ (SharesByte e d × ¬ HasSameRange e d)
 
--- e and d are two events, neither happens before the other, and either both write a byte or one reads from the other
-pub record IsRace (events : List Event) (before reads : ℕ → ℕ → Type 0) (e d : ℕ) : Type 0 where
+-- A race of two events, neither of which happens before the other: both write a byte, or one reads from the other. It is
+-- a data race where they are unguarded.
+pub record IsDataRace (events : List Event) (before reads : ℕ → ℕ → Type 0) (e d : ℕ) : Type 0 where
   pub first_known : e < length events
   pub second_known : d < length events
   pub distinct : e ≢ d
   pub not_before : ¬ before e d
   pub not_after : ¬ before d e
   pub conflict : WriteOneByte (event_at events e) (event_at events d) ⊎ reads e d ⊎ reads d e
-
--- one of the two is not sequentially consistent, or their ranges overlap
-abbrev pub AreUnguarded : Event → Event → Type 0
-AreUnguarded e d = (e.order ≢ SeqCst) ⊎ (d.order ≢ SeqCst) ⊎ HaveOverlap e d
-
--- a race of two events that are so
-pub record IsDataRace (events : List Event) (before reads : ℕ → ℕ → Type 0) (e d : ℕ) : Type 0 where
-  pub race : IsRace events before reads e d
   pub unguarded : AreUnguarded (event_at events e) (event_at events d)
 
 -- some two events are in a data race
@@ -42,8 +34,6 @@ pub record HasDataRaceOf (events : List Event) (before reads : ℕ → ℕ → T
   pub second : ℕ
   pub is_race : IsDataRace events before reads first second
 
-abbrev pub HasDataRaceBy : List Event → (ℕ → ℕ → ℕ → Type 0) → Type 0
-HasDataRaceBy events given = HasDataRaceOf events (HappensBeforeBy events given) (ReadsFromBy given)
-
+-- by happens-before and reads-from of these sources
 abbrev pub HasDataRace : List Event → List ℕ → Type 0
-HasDataRace events sources = HasDataRaceBy events (ReadsByteFrom events sources)
+HasDataRace events sources = HasDataRaceOf events (HappensBefore events sources) (ReadsFromBy (ReadsByteFrom events sources))

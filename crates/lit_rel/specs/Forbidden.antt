@@ -6,7 +6,7 @@ use Rattle.lit_paths.specs.declared.event.Event.{Event}
 use Rattle.lit_paths.specs.Event.{HasSameRange, does_write, event_at}
 use Rattle.lit_rel.specs.ReadsFrom.{ReadsByteFrom, ReadsFromBy}
 use Rattle.lit_rel.specs.SynchronizesWith.{CanSynchronize}
-use Rattle.lit_rel.specs.HappensBefore.{HappensBeforeBy}
+use Rattle.lit_rel.specs.HappensBefore.{HappensBefore}
 
 -- w can synchronize with r, as it does where r reads from it, and v has the range of r
 pub record IsBetweenSynchronized (events : List Event) (w r v : ℕ) : Type 0 where
@@ -40,8 +40,6 @@ pub record IsForbiddenTriple (events : List Event) (given : ℕ → ℕ → ℕ 
   pub reads : ReadsFromBy given r w
   pub between : IsForbiddenBetween events before w r v
 
-abbrev pub IsForbiddenBy : List Event → (ℕ → ℕ → ℕ → Type 0) → ℕ → ℕ → ℕ → Type 0
-IsForbiddenBy events given = IsForbiddenTriple events given (HappensBeforeBy events given)
-
+-- by reads-from and happens-before of these sources
 abbrev pub IsForbidden : List Event → List ℕ → ℕ → ℕ → ℕ → Type 0
-IsForbidden events sources = IsForbiddenBy events (ReadsByteFrom events sources)
+IsForbidden events sources = IsForbiddenTriple events (ReadsByteFrom events sources) (HappensBefore events sources)

@@ -5,9 +5,21 @@ use Rattle.lit_paths.specs.ByteReads.{byte_reads}
 use Rattle.lit_rel.specs.ReadsFrom.{ReadsByteFrom, ReadsFromBy, value_of}
 use Rattle.lit_rel.specs.SynchronizesWith.{SynchronizesBy}
 use Rattle.lit_rel.specs.HappensBefore.{HappensBeforeBy}
-use Rattle.lit_rel.specs.Coherent.{HasCoherentReadsBy}
-use Rattle.lit_rel.specs.TearFree.{HasTearFreeReadsBy}
-use Rattle.lit_rel.specs.Forbidden.{IsForbiddenBy}
+use Rattle.lit_rel.specs.Coherent.{IsCoherentRead}
+use Rattle.lit_rel.specs.TearFree.{ReadsWholeBy}
+use Rattle.lit_rel.specs.Forbidden.{IsForbiddenTriple}
+
+-- v may not stand between w and its read r, by what is given
+abbrev pub IsForbiddenBy : List Event → (ℕ → ℕ → ℕ → Type 0) → ℕ → ℕ → ℕ → Type 0
+IsForbiddenBy events given = IsForbiddenTriple events given (HappensBeforeBy events given)
+
+-- each byte that is given a source is coherent
+abbrev pub HasCoherentReadsBy : List Event → (ℕ → ℕ → ℕ → Type 0) → Type 0
+HasCoherentReadsBy events given = (r b w : ℕ) → given r b w → IsCoherentRead events (HappensBeforeBy events given) r b w
+
+-- each read has one source at most that it is given whole
+abbrev pub HasTearFreeReadsBy : List Event → (ℕ → ℕ → ℕ → Type 0) → Type 0
+HasTearFreeReadsBy events given = (r w v : ℕ) → ReadsWholeBy events given r w → ReadsWholeBy events given r v → v ≡ w
 
 -- The relations only grow. That the reads are coherent and tear free only goes from true to false.
 pub record Grows (events : List Event) (less more : ℕ → ℕ → ℕ → Type 0) : Type 0 where

@@ -29,5 +29,6 @@ pub record HappensBeforeBy (events : List Event) (given : ℕ → ℕ → ℕ �
   pub middles : List ℕ
   pub chain : Chain (StepBy events given) e middles d
 
+-- by these sources
 abbrev pub HappensBefore : List Event → List ℕ → ℕ → ℕ → Type 0
 HappensBefore events sources = HappensBeforeBy events (ReadsByteFrom events sources)

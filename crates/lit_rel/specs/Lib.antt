@@ -11,7 +11,7 @@ pub mod TearFree
 pub mod Forbidden
 pub mod Peers
 pub mod Growth
-pub mod InitReads
+pub mod ByteReadList
 pub mod DataRace
 pub mod Racing
 pub mod Part

@@ -5,8 +5,8 @@ use Rattle.std.specs.Coded.{Coded, code_by, coded×, coded_ℕ, coded_list}
 use Rattle.lit_syntax.specs.Syntax.{Litmus}
 use Rattle.lit_syntax.specs.SyntaxCodes.{coded_litmus}
 use Rattle.lit_paths.specs.declared.event.Event.{Event}
-use Rattle.lit_paths.specs.ByteReads.{byte_reads, IsCandidate}
-use Rattle.lit_paths.specs.Choice.{AreCandidates}
+use Rattle.lit_paths.specs.ByteReads.{byte_reads}
+use Rattle.lit_paths.specs.Members.{IsCandidate, AreCandidates}
 use Rattle.lit_paths.specs.Plan.{events_in}
 
 -- the test, the combination's number, and the sources given so far

@@ -19,16 +19,12 @@ ReadsFromBy given r w = (b : ℕ) × given r b w
 abbrev pub ReadsFrom : List Event → List ℕ → ℕ → ℕ → Type 0
 ReadsFrom events sources = ReadsFromBy (ReadsByteFrom events sources)
 
--- the payload byte of each source of read r, by rising byte
-abbrev pub bytes_of_read : List Event → List ℕ → ℕ → List ℕ
-bytes_of_read events sources r =
-    map (λ p. payload_at (event_at events p.1) p.0.1) (filter (λ p. p.0.0 == r) (zip (byte_reads events) sources))
-
 -- a number from its bytes, the lowest first
 abbrev pub composed : List ℕ → ℕ
 composed [] = 0
 composed (b ∷ bs) = b + 256 * composed bs
 
--- the value of read r
+-- the value of read r, from the payload byte of each of its sources, by rising byte
 abbrev pub value_of : List Event → List ℕ → ℕ → ℕ
-value_of events sources r = composed (bytes_of_read events sources r)
+value_of events sources r =
+    composed (map (λ p. payload_at (event_at events p.1) p.0.1) (filter (λ p. p.0.0 == r) (zip (byte_reads events) sources)))

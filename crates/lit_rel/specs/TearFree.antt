@@ -15,8 +15,7 @@ pub record ReadsWholeBy (events : List Event) (given : ℕ → ℕ → ℕ → T
   pub reads : ReadsFromBy given r w
   pub can : CanReadWhole (event_at events r) (event_at events w)
 
-abbrev pub HasTearFreeReadsBy : List Event → (ℕ → ℕ → ℕ → Type 0) → Type 0
-HasTearFreeReadsBy events given = (r w v : ℕ) → ReadsWholeBy events given r w → ReadsWholeBy events given r v → v ≡ w
-
+-- each read has one source at most that it reads so
 abbrev pub HasTearFreeReads : List Event → List ℕ → Type 0
-HasTearFreeReads events sources = HasTearFreeReadsBy events (ReadsByteFrom events sources)
+HasTearFreeReads events sources =
+    (r w v : ℕ) → ReadsWholeBy events (ReadsByteFrom events sources) r w → ReadsWholeBy events (ReadsByteFrom events sources) r v → v ≡ w

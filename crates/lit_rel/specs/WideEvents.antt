@@ -3,7 +3,7 @@ use Rattle.std.specs.Prelude.{◌≡◌, ◌≢◌, ℕ, true, false, Some, List
 use Rattle.lit_paths.specs.declared.event.Event.{Event}
 use Rattle.lit_paths.specs.declared.event.Kind.TheVariants.{Read, Write}
 use Rattle.lit_paths.specs.declared.event.Order3.TheVariants.{SeqCst, Unordered}
-use Rattle.lit_paths.specs.Choice.{AreSources}
+use Rattle.lit_paths.specs.Members.{AreSources}
 use Rattle.lit_paths.specs.Event.{init_events}
 use Rattle.lit_rel.specs.ReadsFrom.{ReadsFrom, value_of}
 use Rattle.lit_rel.specs.SynchronizesWith.{Synchronizes}

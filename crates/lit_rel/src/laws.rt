@@ -7,7 +7,7 @@ ghost use Rattle.lit_paths.specs.declared.event.Event.{Event};
 ghost use Rattle.lit_rel.specs.Broken.{BytesStayBroken, StaysBroken};
 ghost use Rattle.lit_rel.specs.Growth.{GivenValuesAgree, GrowWithBytes, ValuesStay};
 ghost use Rattle.lit_rel.specs.GuardedBytes.{RefusedBytesMakeFalse};
-ghost use Rattle.lit_rel.specs.InitReads.{AreOfEvents};
+ghost use Rattle.lit_rel.specs.ByteReadList.{AreOfEvents};
 
 pub use wide_events::{
     mixed_sizes_never_synchronize, never_reads_itself, typed_load_mixes_with_init_only,

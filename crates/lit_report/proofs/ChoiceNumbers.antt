@@ -8,7 +8,8 @@ use Rattle.std.proofs.lemmas.List.{get_or-take, get_or_append_left, length-take-
 use Rattle.std.proofs.lemmas.Option.{get_or_from_slice_get, none-some, same_Some, slice_get-get_or, slice_get_within}
 use Rattle.lit_syntax.specs.Syntax.{Litmus}
 use Rattle.lit_paths.specs.ByteReads.{byte_reads, byte_read_at}
-use Rattle.lit_paths.specs.Choice.{AreSources, Choice, candidates_of, choices_of, combinations_of}
+use Rattle.lit_paths.specs.Choice.{Choice, candidates_of, choices_of, combinations_of}
+use Rattle.lit_paths.specs.Members.{AreSources}
 use Rattle.lit_paths.specs.Numbers.{AreNumbered, IsBegunBy, NumbersChoices, ways_from}
 use Rattle.lit_paths.specs.Plan.{HasSources, IsOfCombination, choices_before, events_in}
 use Rattle.lit_paths.proofs.ChoiceNumbers.{known_by_first, rest_none, ways_split}

@@ -13,7 +13,8 @@ use Rattle.lit_paths.specs.declared.event.Event.{Event}
 use Rattle.lit_paths.specs.Event.{init_event, init_events}
 use Rattle.lit_paths.specs.Path.{Path, Step, LoadMet, StoreMet, ExchangeMet, CompareExchangeMet, IfMet, compare_exchange_event, events_on}
 use Rattle.lit_paths.specs.Run.{Run, run_path}
-use Rattle.lit_paths.specs.Choice.{Choice, ListsCombinations, choices_of, combinations_of, events_of}
+use Rattle.lit_paths.specs.Choice.{Choice, choices_of, combinations_of, events_of}
+use Rattle.lit_paths.specs.Members.{ListsCombinations}
 use Rattle.lit_paths.specs.Execution.{Execution, execution_events, execution_choice, IsCandidateExecution}
 use Rattle.lit_paths.specs.Plan.{HasSources, IsOfCombination, combination_at, events_in}
 use Rattle.lit_report.specs.ChoiceEvents.{paths_with, choice_at, choice_events}

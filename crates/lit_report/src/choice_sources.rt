@@ -3,7 +3,7 @@
 
 ghost use Rattle.std.specs.Prelude.{◌≡◌, ◌+◌, ◌<◌, ◌≤◌, length, take};
 ghost use Rattle.lit_paths.specs.ByteReads.{byte_reads};
-ghost use Rattle.lit_paths.specs.Choice.{AreSources};
+ghost use Rattle.lit_paths.specs.Members.{AreSources};
 ghost use Rattle.lit_paths.specs.Numbers.{AreNumbered, IsBegunBy, ways_from};
 ghost use Rattle.lit_paths.specs.Plan.{HasSources, IsOfCombination, choices_before, events_in};
 ghost use Rattle.lit_report.specs.ChoiceSources.{HoldsSources};

@@ -5,7 +5,8 @@ pub use Rattle.lit_interleave.specs.Interleaving.{interleaved}
 pub use Rattle.lit_order.specs.MemoryOrder.{IsLeastMemoryOrder}
 pub use Rattle.lit_paths.proofs.Rising.{slice_get-map-known}
 pub use Rattle.lit_paths.specs.ByteReads.{byte_reads}
-pub use Rattle.lit_paths.specs.Choice.{AreSources, Choice, choices_of}
+pub use Rattle.lit_paths.specs.Choice.{Choice, choices_of}
+pub use Rattle.lit_paths.specs.Members.{AreSources}
 pub use Rattle.lit_paths.specs.Execution.{Execution, execution_choice, execution_events, execution_outcome}
 pub use Rattle.lit_paths.specs.Path.{Path}
 pub use Rattle.lit_paths.specs.Plan.{choices_before, combination_at, HasSources, IsOfCombination}

@@ -41,10 +41,6 @@ abbrev pub in_either : (ℕ → Bool) → (ℕ → Bool) → ℕ → Bool
 in_either some others n = some n || others n
 
 -- ---- reports
--- one of these numbers is that of a choice with a data race
-abbrev pub HasRaceIn : Litmus → (ℕ → Bool) → Type 0
-HasRaceIn t numbers = (n : ℕ) × IsTrue (numbers n) × GivesRace t n
-
 -- an entry of the report of the choices with these numbers
 pub record IsEntry (t : Litmus) (numbers : ℕ → Bool) (entry : Entry) : Type 0 where
   pub among : IsTrue (numbers entry.choice)
@@ -64,4 +60,4 @@ pub record AreEntries (t : Litmus) (numbers : ℕ → Bool) (entries : List Entr
 -- these choices has a data race.
 pub record IsReport (t : Litmus) (numbers : ℕ → Bool) (report : Report) : Type 0 where
   pub listed : AreEntries t numbers report.entries
-  pub raced : IsTrue report.race ↔ HasRaceIn t numbers
+  pub raced : IsTrue report.race ↔ ((n : ℕ) × IsTrue (numbers n) × GivesRace t n)

@@ -8,6 +8,7 @@ use Rattle.lit_solve.proofs.Words.{PartModel, ReadsByteFrom, ReadsWholeBy, Refus
 use Rattle.lit_solve.proofs.Words.{slice_get-get_or, slice_get_within, Some, StandsBefore, StandsBefore-through, subst, sym, triples_below}
 use Rattle.lit_solve.proofs.Words.{ℕ, ◌∙◌, ◌≡◌}
 use Rattle.std.proofs.Common.{append-nil}
+use Rattle.lit_paths.proofs.ChoiceLists.{execution-sources}
 use Rattle.lit_valid.proofs.CompletionLemmas.{its_events}
 
 -- the box's combination with these sources
@@ -39,7 +40,7 @@ module _ (box : Box) (x : Execution) (is : IsCompletion box x) where
   events_same = its_events (part_of box x.sources) x completes
 
   pub sourced : AreSources events x.sources
-  sourced = subst (λ (es : List Event). AreSources es x.sources) events_same is.valid.candidate.sourced
+  sourced = subst (λ (es : List Event). AreSources es x.sources) events_same (execution-sources box.test x is.valid.candidate)
 
   -- it takes what is given
   pub given_taken : (r b w : ℕ) → GivenIn box r b w → ReadsByteFrom events x.sources r b w

@@ -67,26 +67,24 @@ module _ (box : Box) (laws : Laws) (entered : IsBox box) where
         ⊎ ReadsFrom events y.sources h.second h.first)
         → HasSolution box Race
     raced h y it conflict =
-        let race = h.is_race.race in
+        let race = h.is_race in
         let found : HasDataRace events y.sources = record {
           first = h.first;
           second = h.second;
           is_race = record {
-            race = record {
-              first_known = race.first_known;
-              second_known = race.second_known;
-              distinct = race.distinct;
-              not_before = λ b. race.not_before (before_back box y.sources (sources_lie box y it) leaf h.first h.second b);
-              not_after = λ b. race.not_after (before_back box y.sources (sources_lie box y it) leaf h.second h.first b);
-              conflict = conflict;
-            };
-            unguarded = h.is_race.unguarded;
+            first_known = race.first_known;
+            second_known = race.second_known;
+            distinct = race.distinct;
+            not_before = λ b. race.not_before (before_back box y.sources (sources_lie box y it) leaf h.first h.second b);
+            not_after = λ b. race.not_after (before_back box y.sources (sources_lie box y it) leaf h.second h.first b);
+            conflict = conflict;
+            unguarded = race.unguarded;
           };
         } in
         (y, record { completes = it; meets = subst (λ (es : List Event). HasDataRace es y.sources) (sym (events_same box y it)) found })
 
     pub race_found : CanRaceIn box → HasSolution box Race
-    race_found h = by h.is_race.race.conflict
+    race_found h = by h.is_race.conflict
       where
         by : (WriteOneByte (event_at events h.first) (event_at events h.second) ⊎ CanFillFrom box h.first h.second ⊎ CanFillFrom box h.second h.first)
             → HasSolution box Race

@@ -1,16 +1,17 @@
 -- The words that the proofs of this crate speak in, of the library, of the crates below and of its own specs: passed on to all of them.
 pub use Rattle.lit_order.specs.Forcing.{Given, IsForced, Through}
 pub use Rattle.lit_order.specs.MemoryOrder.{HasOrder, IsLeastMemoryOrder, IsLeastOrderOf, IsMemoryOrder, IsOrderOf, StandsBefore}
-pub use Rattle.lit_paths.specs.ByteReads.{byte_read_at, byte_reads, IsCandidate, pair_of}
-pub use Rattle.lit_paths.specs.Choice.{AreSources, candidates_of, Choice, choices_of, combinations_of, ListsChoices}
+pub use Rattle.lit_paths.specs.ByteReads.{byte_read_at, byte_reads, pair_of}
+pub use Rattle.lit_paths.specs.Members.{IsCandidate, IsStatementWalk, IsWalk, AreSources, ListsChoices, ListsCandidates}
+pub use Rattle.lit_paths.specs.Choice.{candidates_of, Choice, choices_of, combinations_of}
 pub use Rattle.lit_paths.specs.Event.{does_read, does_write, event_at, no_event, payload_at}
 pub use Rattle.lit_paths.specs.Execution.{Execution, execution_events, execution_outcome}
 pub use Rattle.lit_paths.specs.Numbers.{AreNumbered, IsBegunBy, length_product, NumbersChoices, ways_from}
 pub use Rattle.lit_paths.specs.Outcome.{asks as looks_at, holds, names_from, names_in, names_of, value_in}
-pub use Rattle.lit_paths.specs.Path.{IsStatementWalk, IsWalk, path_on, payload_of, Step}
+pub use Rattle.lit_paths.specs.Path.{path_on, payload_of, Step}
 pub use Rattle.lit_paths.specs.PathModel.{accesses_of, IsReadAt, last_read, last_read_from, reads_into}
 pub use Rattle.lit_paths.specs.Plan.{AreEventsIn, choices_before, events_in, first_event, HasSources, IsOfCombination, IsWalkIn}
-pub use Rattle.lit_paths.specs.Plan.{ListsCandidates, path_in, walk_in}
+pub use Rattle.lit_paths.specs.Plan.{path_in, walk_in}
 pub use Rattle.lit_paths.specs.declared.byte_reads.ByteRead.{ByteRead}
 pub use Rattle.lit_paths.specs.declared.event.Event.{Event}
 pub use Rattle.lit_paths.specs.declared.event.Order3.TheVariants.{SeqCst}
@@ -25,10 +26,10 @@ pub use Rattle.lit_rel.specs.Broken.{HasFalseGuardOn, IsBroken, number_on}
 pub use Rattle.lit_rel.specs.Coherent.{HasCoherentReads, IsCoherentRead}
 pub use Rattle.lit_rel.specs.DataRace.{HasDataRace, HasDataRaceOf, WriteOneByte}
 pub use Rattle.lit_rel.specs.EventSet.{HasEvent, IsSplit, no_events}
-pub use Rattle.lit_rel.specs.Forbidden.{IsForbidden, IsForbiddenBetween, IsForbiddenBy}
-pub use Rattle.lit_rel.specs.Growth.{Grows, IsGivenWhole}
+pub use Rattle.lit_rel.specs.Forbidden.{IsForbidden, IsForbiddenBetween}
+pub use Rattle.lit_rel.specs.Growth.{IsForbiddenBy, Grows, IsGivenWhole}
 pub use Rattle.lit_rel.specs.HappensBefore.{Chain, HappensBefore, HappensBeforeBy, StepBy}
-pub use Rattle.lit_rel.specs.InitReads.{AreOfEvents}
+pub use Rattle.lit_rel.specs.ByteReadList.{AreOfEvents}
 pub use Rattle.lit_rel.specs.Internal.Given.{AreFirstReads, read_of}
 pub use Rattle.lit_rel.specs.Part.{PartModel}
 pub use Rattle.lit_rel.specs.Peers.{ArePeers, IsPeer}

@@ -3,7 +3,8 @@
 use Rattle.std.specs.Prelude.{◌≡◌, ℕ, ◌<◌, List, length, Some, slice_get, slice_index_or}
 use Rattle.lit_syntax.specs.Syntax.{IsLitmus, Litmus}
 use Rattle.lit_paths.specs.declared.event.Event.{Event}
-use Rattle.lit_paths.specs.ByteReads.{byte_reads, IsCandidate}
+use Rattle.lit_paths.specs.ByteReads.{byte_reads}
+use Rattle.lit_paths.specs.Members.{IsCandidate}
 use Rattle.lit_paths.specs.Choice.{combinations_of}
 use Rattle.lit_paths.specs.Plan.{events_in}
 use Rattle.lit_rel.specs.declared.event_set.EventSet.{EventSet}

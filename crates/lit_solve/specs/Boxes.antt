@@ -9,8 +9,8 @@ use Rattle.std.specs.declared.cmp.Ordering.TheVariants.{Less}
 use Rattle.lit_syntax.specs.Syntax.{Litmus}
 use Rattle.lit_syntax.specs.SyntaxCodes.{coded_litmus}
 use Rattle.lit_paths.specs.declared.event.Event.{Event}
-use Rattle.lit_paths.specs.ByteReads.{byte_reads, byte_read_at, IsCandidate}
-use Rattle.lit_paths.specs.Choice.{AreSources}
+use Rattle.lit_paths.specs.ByteReads.{byte_reads, byte_read_at}
+use Rattle.lit_paths.specs.Members.{IsCandidate, AreSources}
 use Rattle.lit_paths.specs.Plan.{HasSources, choices_before, events_in}
 use Rattle.lit_rel.specs.declared.event_set.EventSet.{EventSet}
 use Rattle.lit_solve.specs.Box.{HasSource, box_with}

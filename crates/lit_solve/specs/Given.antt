@@ -2,7 +2,7 @@
 -- relations are those of the given sources (ECMA-262, 2024, 29.6.6 and 29.7.4), and the pairs that they force.
 use Rattle.std.specs.Prelude.{◌≡◌, ℕ, Some, slice_get}
 use Rattle.lit_paths.specs.ByteReads.{byte_reads}
-use Rattle.lit_rel.specs.Forbidden.{IsForbiddenBy}
+use Rattle.lit_rel.specs.Growth.{IsForbiddenBy}
 use Rattle.lit_rel.specs.HappensBefore.{HappensBeforeBy}
 use Rattle.lit_order.specs.Forcing.{IsForced}
 use Rattle.lit_solve.specs.Box.{Box, HasSource, box_events}

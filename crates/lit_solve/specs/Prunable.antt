@@ -1,7 +1,7 @@
 -- Which sources a box prunes, and when it is refuted (this project's own).
 use Rattle.std.specs.Prelude.{◌≢◌, ◌⊎◌, ℕ, List, Some, None}
 use Rattle.lit_syntax.specs.Syntax.{Litmus}
-use Rattle.lit_paths.specs.Choice.{AreSources}
+use Rattle.lit_paths.specs.Members.{AreSources}
 use Rattle.lit_paths.specs.Event.{event_at, payload_at}
 use Rattle.lit_rel.specs.Broken.{HasFalseGuardOn, HasTornReadBy}
 use Rattle.lit_rel.specs.Coherent.{IsCoherentRead}

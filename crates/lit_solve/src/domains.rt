@@ -1,7 +1,8 @@
 //! Domains: a set of candidates for each byte read.
 
 ghost use Rattle.std.specs.Prelude.{◌≡◌, ◌↔◌, ℕ, ◌<◌, MatchOption, length};
-ghost use Rattle.lit_paths.specs.ByteReads.{byte_reads, byte_read_at, IsCandidate};
+ghost use Rattle.lit_paths.specs.ByteReads.{byte_reads, byte_read_at};
+ghost use Rattle.lit_paths.specs.Members.{IsCandidate};
 ghost use Rattle.lit_paths.specs.declared.limits.TheConstants.{EVENT_LIMIT};
 ghost use Rattle.lit_paths.specs.Plan.{events_in};
 ghost use Rattle.lit_rel.specs.EventSet.{HasEvent};

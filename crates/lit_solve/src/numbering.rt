@@ -2,7 +2,8 @@
 
 ghost use Rattle.std.specs.Prelude.{◌≡◌, ℕ, ◌+◌, ◌<◌, ◌≤◌, Some, length, slice_get, slice_index_or};
 ghost use Rattle.lit_paths.specs.ByteReads.{byte_reads};
-ghost use Rattle.lit_paths.specs.Choice.{AreSources, combinations_of};
+ghost use Rattle.lit_paths.specs.Choice.{combinations_of};
+ghost use Rattle.lit_paths.specs.Members.{AreSources};
 ghost use Rattle.lit_paths.specs.declared.limits.TheConstants.{CHOICE_LIMIT};
 ghost use Rattle.lit_paths.specs.Numbers.{NumbersChoices};
 ghost use Rattle.lit_paths.specs.Plan.{HasSources, IsOfCombination, choices_before, events_in};

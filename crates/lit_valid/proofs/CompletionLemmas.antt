@@ -1,6 +1,6 @@
 -- Completions of a part: what is true of the part is true of them, and when there is one.
 use Rattle.std.proofs.Common.{◌≡◌, ◌≢◌, ◌⊎◌, inl, inr, ℕ, zero, suc, ◌+◌, ◌<◌, Bool, true, false, Option, Some, None, List, [], ◌∷◌, ◌++◌, length, map, get_or, refl, sym, ap, subst, ◌∙◌, arith, append-nil}
-use Rattle.std.specs.Prelude.{All, slice_get, slice_index}
+use Rattle.std.specs.Prelude.{All, Contains, slice_get, slice_index}
 use Rattle.std.specs.List.{flat_map}
 use Rattle.std.proofs.lemmas.List.{length-map, same_lists, get_or-map, get_or_default}
 use Rattle.std.proofs.lemmas.Option.{slice_get-get_or, slice_get_within, get_or_from_slice_get}
@@ -9,13 +9,15 @@ use Rattle.lit_syntax.specs.Syntax.{IsLitmus, Litmus, agent_of}
 use Rattle.lit_paths.specs.declared.event.Event.{Event}
 use Rattle.lit_paths.specs.declared.path.Tested.{Tested}
 use Rattle.lit_paths.specs.ByteReads.{byte_reads}
-use Rattle.lit_paths.specs.Choice.{AreSources, combinations_of, events_of}
+use Rattle.lit_paths.specs.Choice.{combinations_of, events_of, sources_of}
+use Rattle.lit_paths.specs.Members.{AreSources}
 use Rattle.lit_paths.specs.Execution.{Execution, execution_events, execution_outcome}
 use Rattle.lit_paths.specs.Outcome.{names_of}
 use Rattle.lit_paths.specs.Path.{path_on}
 use Rattle.lit_paths.specs.Plan.{combination_at, first_event, path_in, walk_in}
 use Rattle.lit_paths.specs.Run.{Run, compares, run_path}
 use Rattle.lit_paths.specs.Told.{TellsRuns}
+use Rattle.lit_paths.proofs.ChoiceLists.{sources_of-iff}
 use Rattle.lit_rel.specs.Broken.{HasBrokenRelations, HasFalseGuard, HasFalseGuardOn, IsBroken, number_on}
 use Rattle.lit_rel.specs.Coherent.{HasCoherentReads, IsCoherentRead}
 use Rattle.lit_rel.specs.Growth.{GrowWithBytes, IsGivenWhole, ValuesStay}
@@ -241,7 +243,7 @@ module _ (part : PartModel) (entered : IsOnCombination part) (laws : Laws) (sour
     candidate = record {
       one_each = found.1;
       each = λ i run at. (given.each i run at).is_run;
-      sourced = to_example (λ es. AreSources es part.sources) sourced;
+      sourced = to_example (λ es. Contains (sources_of es) part.sources) ((sources_of-iff (part_events part) part.sources).1 sourced);
     };
     no_cycle = to_example (λ es. (e : ℕ) → ¬ HappensBefore es part.sources e e) no_cycle;
     chosen_reads = to_example (λ es. flat_map (λ run. run.values) example.runs ≡ map (value_of es part.sources) (read_numbers es))

@@ -7,7 +7,8 @@ use Rattle.std.proofs.lemmas.Option.{slice_get_within, get_or_from_slice_get}
 use Rattle.lit_syntax.specs.Syntax.{Litmus, agent_of}
 use Rattle.lit_paths.specs.declared.event.Event.{Event}
 use Rattle.lit_paths.specs.Path.{Path}
-use Rattle.lit_paths.specs.Plan.{accesses_on, combination_at, events_in, first_event}
+use Rattle.lit_paths.specs.Plan.{combination_at, events_in, first_event}
+use Rattle.lit_paths.specs.Refusal.{accesses_on}
 use Rattle.lit_paths.specs.Run.{Run, IsRun, run_path}
 use Rattle.lit_rel.specs.ReadsFrom.{value_of}
 use Rattle.lit_valid.specs.ValidExecution.{read_numbers, read_numbers_from}

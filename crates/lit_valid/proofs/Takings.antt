@@ -6,7 +6,7 @@ use Rattle.std.proofs.lemmas.List.{map-append}
 use Rattle.lit_paths.specs.declared.event.Event.{Event}
 use Rattle.lit_paths.specs.Event.{does_read, init_event, init_events}
 use Rattle.lit_paths.specs.Run.{Run, run_path}
-use Rattle.lit_paths.specs.Plan.{accesses_on}
+use Rattle.lit_paths.specs.Refusal.{accesses_on}
 use Rattle.lit_paths.specs.Told.{read_places}
 use Rattle.lit_valid.specs.ValidExecution.{read_numbers_from, read_numbers}
 use Rattle.lit_paths.proofs.EventLists.{length-init_events}

@@ -2,16 +2,17 @@
 use Rattle.std.specs.Prelude.{◌≡◌, ℕ, ◌+◌, ◌<◌, ◌≤◌, List, length}
 use Rattle.lit_syntax.specs.Syntax.{AreStatementsIn, IsLitmus, Litmus, Statements}
 use Rattle.lit_paths.specs.declared.event.Event.{Event}
-use Rattle.lit_paths.specs.Choice.{IsChoice, ListsChoices, ListsCombinations, combinations_of}
+use Rattle.lit_paths.specs.Choice.{combinations_of}
+use Rattle.lit_paths.specs.Members.{IsChoice, ListsChoices, ListsCombinations, IsWalk}
 use Rattle.lit_paths.specs.Execution.{Execution, IsCandidateExecution, execution_choice}
 use Rattle.lit_paths.specs.Numbers.{NumbersChoices}
-use Rattle.lit_paths.specs.Path.{IsWalk, Step, path_on}
+use Rattle.lit_paths.specs.Path.{Step, path_on}
 use Rattle.lit_paths.specs.PathModel.{path_model}
 use Rattle.lit_paths.specs.Plan.{IsOfCombination, IsWalkIn, choices_before, walk_in}
 use Rattle.lit_paths.specs.Run.{IsRun, Run}
 use Rattle.lit_paths.specs.Told.{TellsRuns, read_places}
 use Rattle.lit_rel.specs.Growth.{GrowWithBytes, ValuesStay}
-use Rattle.lit_rel.specs.InitReads.{AreOfEvents}
+use Rattle.lit_rel.specs.ByteReadList.{AreOfEvents}
 
 -- a run has one value for each of its reads
 abbrev pub ChooseForEachRead : Type 0

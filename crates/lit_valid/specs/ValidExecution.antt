@@ -16,6 +16,7 @@ abbrev pub read_numbers_from : ℕ → List Event → List ℕ
 read_numbers_from n [] = []
 read_numbers_from n (e ∷ es) = if does_read e.kind then n ∷ read_numbers_from (n + 1) es else read_numbers_from (n + 1) es
 
+-- the numbers of all reads, rising
 abbrev pub read_numbers : List Event → List ℕ
 read_numbers events = read_numbers_from 0 events
 

@@ -2,7 +2,7 @@
 
 ghost use Rattle.std.specs.Prelude.{◌≡◌, ◌↔◌, ℕ, List};
 ghost use Rattle.lit_syntax.specs.Syntax.{IsLitmus, Litmus};
-ghost use Rattle.lit_paths.specs.Choice.{AreSources};
+ghost use Rattle.lit_paths.specs.Members.{AreSources};
 ghost use Rattle.lit_paths.specs.Execution.{Execution, execution_events};
 ghost use Rattle.lit_rel.specs.Broken.{IsBroken};
 ghost use Rattle.lit_rel.specs.Part.{PartModel, part_events};

@@ -7,8 +7,9 @@ use Rattle.std.proofs.lemmas.List.{get_or-set_other, get_or-set_same}
 use Rattle.std.proofs.lemmas.Option.{get_or_from_slice_get, same_Some, slice_get_within, slice_get-get_or}
 use Rattle.lit_syntax.specs.Syntax.{Litmus}
 use Rattle.lit_paths.specs.declared.event.Event.{Event}
-use Rattle.lit_paths.specs.ByteReads.{IsCandidate, byte_reads}
-use Rattle.lit_paths.specs.Choice.{AreSources, Choice, choices_of, combinations_of}
+use Rattle.lit_paths.specs.ByteReads.{byte_reads}
+use Rattle.lit_paths.specs.Members.{IsCandidate, AreSources}
+use Rattle.lit_paths.specs.Choice.{Choice, choices_of, combinations_of}
 use Rattle.lit_paths.specs.Plan.{AreEventsIn, choices_before, combination_at, events_in}
 use Rattle.lit_paths.proofs.PlanFacts.{before_mono}
 use Rattle.lit_paths.proofs.Totals.{before_all}

@@ -2,7 +2,8 @@
 use Rattle.std.proofs.Common.{◌≡◌, ◌↔◌, ℕ, ◌<◌, List, Some, length}
 use Rattle.std.specs.Prelude.{slice_get, slice_index_or}
 use Rattle.lit_syntax.specs.Syntax.{IsLitmus, Litmus}
-use Rattle.lit_paths.specs.ByteReads.{byte_reads, IsCandidate}
+use Rattle.lit_paths.specs.ByteReads.{byte_reads}
+use Rattle.lit_paths.specs.Members.{IsCandidate}
 use Rattle.lit_paths.specs.Choice.{combinations_of}
 use Rattle.lit_paths.specs.declared.limits.TheConstants.{BYTE_READ_LIMIT}
 use Rattle.lit_rel.specs.declared.event_set.EventSet.{EventSet}

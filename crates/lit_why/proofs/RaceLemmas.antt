@@ -26,25 +26,23 @@ unguarded_back : (e d : Event) → AreUnguarded e d → AreUnguarded d e
 unguarded_back e d (inl first) = inr (inl first)
 unguarded_back e d (inr (inl second)) = inl second
 unguarded_back e d (inr (inr overlap)) =
-    inr (inr record { shares = (overlap.shares.0, overlap.shares.2, overlap.shares.1); unequal = λ same. overlap.unequal (same_range_back d e same) })
+    inr (inr ((overlap.0.0, overlap.0.2, overlap.0.1), λ same. overlap.1 (same_range_back d e same)))
 
 module _ (events : List Event) (before reads : ℕ → ℕ → Type 0) where
   turned : (e d : ℕ) → IsDataRace events before reads e d → IsDataRace events before reads d e
   turned e d h =
       let unguarded = unguarded_back (event_at events e) (event_at events d) h.unguarded in
       record {
-        race = record {
-          first_known = h.race.second_known;
-          second_known = h.race.first_known;
-          distinct = λ same. h.race.distinct (sym same);
-          not_before = h.race.not_after;
-          not_after = h.race.not_before;
-          conflict = elim h.race.conflict [
-            | inl writes ↦ inl (WritesWith-sym events e d writes)
-            | inr (inl there) ↦ inr (inr there)
-            | inr (inr back) ↦ inr (inl back)
-          ];
-        };
+        first_known = h.second_known;
+        second_known = h.first_known;
+        distinct = λ same. h.distinct (sym same);
+        not_before = h.not_after;
+        not_after = h.not_before;
+        conflict = elim h.conflict [
+          | inl writes ↦ inl (WritesWith-sym events e d writes)
+          | inr (inl there) ↦ inr (inr there)
+          | inr (inr back) ↦ inr (inl back)
+        ];
         unguarded = unguarded;
       }
 
@@ -53,7 +51,7 @@ module _ (events : List Event) (before reads : ℕ → ℕ → Type 0) where
       elim (cases_lt h.first h.second) [
         | inl less ↦ none h.first h.second less h.is_race
         | inr other ↦
-            let distinct : h.first ≢ h.second = h.is_race.race.distinct in
+            let distinct : h.first ≢ h.second = h.is_race.distinct in
             none h.second h.first (omega arith) (turned h.first h.second h.is_race)
       ]
 

@@ -9,7 +9,7 @@ use Rattle.lit_paths.proofs.Rising.{RisesBy, append-rises, slice_get-map-found, 
 use Rattle.lit_paths.specs.ByteReads.{byte_reads, byte_reads_from, bytes_read_by, pair_of}
 use Rattle.lit_order.proofs.SameOrders.{IsOrderOf-same}
 use Rattle.lit_order.specs.MemoryOrder.{HasOrder, IsMemoryOrder}
-use Rattle.lit_paths.specs.Choice.{AreSources}
+use Rattle.lit_paths.specs.Members.{AreSources}
 use Rattle.lit_paths.specs.Event.{event_at, payload_at}
 use Rattle.lit_paths.specs.Plan.{first_event, path_in}
 use Rattle.lit_paths.specs.declared.byte_reads.ByteRead.{ByteRead}

@@ -3,7 +3,7 @@ use Rattle.std.proofs.Common.{◌↔◌, ℕ, ◌<◌, Bool, true, false, not, r
 use Rattle.std.specs.Prelude.{IsTrue}
 use Rattle.std.proofs.lemmas.Bool.{false≢true}
 use Rattle.lit_syntax.specs.Syntax.{Litmus}
-use Rattle.lit_paths.specs.ByteReads.{IsCandidate}
+use Rattle.lit_paths.specs.Members.{IsCandidate}
 use Rattle.lit_rel.specs.declared.event_set.EventSet.{EventSet}
 use Rattle.lit_rel.specs.EventSet.{HasEvent}
 use Rattle.lit_solve.specs.Box.{events_on}

@@ -6,11 +6,13 @@ use Rattle.std.proofs.lemmas.Option.{same_Some, slice_get_within}
 use Rattle.lit_syntax.specs.Syntax.{Litmus}
 use Rattle.lit_paths.specs.declared.event.Event.{Event}
 use Rattle.lit_paths.specs.ByteReads.{byte_reads}
-use Rattle.lit_paths.specs.Choice.{AreSources, Choice, choices_of, combinations_of}
+use Rattle.lit_paths.specs.Choice.{Choice, choices_of, combinations_of}
+use Rattle.lit_paths.specs.Members.{AreSources}
 use Rattle.lit_paths.specs.Execution.{Execution, execution_choice, execution_events, execution_outcome}
 use Rattle.lit_paths.specs.Path.{Path}
 use Rattle.lit_paths.specs.Plan.{HasSources, IsOfCombination, choices_before, combination_at, events_in}
 use Rattle.lit_paths.specs.Run.{Run, run_path}
+use Rattle.lit_paths.proofs.ChoiceLists.{execution-sources}
 use Rattle.lit_paths.proofs.Totals.{before_all}
 use Rattle.lit_rel.specs.DataRace.{HasDataRace}
 use Rattle.lit_rel.specs.Part.{IsComplete, PartModel, part_events}
@@ -122,7 +124,7 @@ module _ (part : PartModel) (n : ℕ) (of : IsOfCombination part.test n part.com
   no_rest x is =
       let events = its_events part x is in
       let enough : length x.sources ≡ length (byte_reads (events_in part.test part.combination)) =
-      subst (λ (es : List Event). length x.sources ≡ length (byte_reads es)) events is.valid.candidate.sourced.one_each in
+      subst (λ (es : List Event). length x.sources ≡ length (byte_reads es)) events (execution-sources part.test x is.valid.candidate).one_each in
       is.begun ∙ none is.rest (omega (arith, enough, ap length is.begun, complete, length-append part.sources is.rest))
     where
       none : (rest : List ℕ) → length rest ≡ 0 → part.sources ++ rest ≡ part.sources

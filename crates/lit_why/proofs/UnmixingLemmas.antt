@@ -7,12 +7,14 @@ use Rattle.std.specs.declared.cmp.Ordering.TheVariants.{Less}
 use Rattle.std.proofs.lemmas.Bool.{cases_lt}
 use Rattle.std.proofs.lemmas.Option.{same_Some, get_or_from_slice_get, slice_get-get_or, slice_get_within}
 use Rattle.lit_syntax.specs.Syntax.{IsLitmus, Litmus}
-use Rattle.lit_paths.specs.ByteReads.{IsCandidate, byte_reads, byte_read_at, pair_of}
+use Rattle.lit_paths.specs.ByteReads.{byte_reads, byte_read_at, pair_of}
+use Rattle.lit_paths.specs.Members.{IsCandidate, AreSources}
 use Rattle.lit_paths.specs.declared.byte_reads.ByteRead.{ByteRead}
-use Rattle.lit_paths.specs.Choice.{AreSources, combinations_of}
+use Rattle.lit_paths.specs.Choice.{combinations_of}
 use Rattle.lit_paths.specs.Event.{HasByte, event_at, init_event}
 use Rattle.lit_paths.specs.Execution.{Execution}
 use Rattle.lit_paths.specs.Plan.{AreEventsIn}
+use Rattle.lit_paths.proofs.ChoiceLists.{execution-sources}
 use Rattle.lit_paths.specs.declared.event.Event.{Event}
 use Rattle.lit_paths.specs.declared.event.Order3.TheVariants.{Init}
 use Rattle.lit_rel.specs.Part.{PartModel}
@@ -167,7 +169,7 @@ module _ (c : Litmus × ℕ) where
     sourced ws g =
         let x = g.execution in
         let same = its_events (part x.sources) x (record { valid = g.valid; on_paths = g.on_paths; rest = []; begun = sym (append-nil x.sources) }) in
-        subst (λ (vs : List ℕ). AreSources events vs) g.same (subst (λ (es : List Event). AreSources es x.sources) same g.valid.candidate.sourced)
+        subst (λ (vs : List ℕ). AreSources events vs) g.same (subst (λ (es : List Event). AreSources es x.sources) same (execution-sources c.0 x g.valid.candidate))
 
     -- it is a solution of a box that has its sources
     pub solution : (domains : List EventSet) (ws : List ℕ) (g : Gives ws) → LiesIn (box_with c domains) ws

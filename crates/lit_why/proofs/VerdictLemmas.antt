@@ -8,7 +8,8 @@ use Rattle.std.proofs.lemmas.Option.{slice_get_within, slice_get-get_or}
 use Rattle.lit_syntax.specs.Syntax.{IsLitmus, Litmus}
 use Rattle.lit_paths.specs.declared.event.Event.{Event}
 use Rattle.lit_paths.specs.ByteReads.{byte_reads}
-use Rattle.lit_paths.specs.Choice.{AreSources, choices_of, combinations_of}
+use Rattle.lit_paths.specs.Choice.{choices_of, combinations_of}
+use Rattle.lit_paths.specs.Members.{AreSources}
 use Rattle.lit_paths.specs.Execution.{Execution, execution_choice}
 use Rattle.lit_paths.specs.Plan.{HasSources, IsOfCombination, choices_before, events_in}
 use Rattle.lit_paths.proofs.OutcomeRegisterSteps.{names_from-within}

@@ -6,8 +6,9 @@ use Rattle.std.specs.List.{flat_map}
 use Rattle.std.specs.Prelude.{slice_get}
 use Rattle.std.proofs.Math.Nat.{le_trans, mul-le-mul_left, mul-le-mul_right}
 use Rattle.lit_paths.specs.declared.event.Event.{Event}
-use Rattle.lit_paths.specs.ByteReads.{IsCandidate, byte_read_at, byte_reads}
-use Rattle.lit_paths.specs.Choice.{AreSources, candidates_of, product, sources_of}
+use Rattle.lit_paths.specs.ByteReads.{byte_read_at, byte_reads}
+use Rattle.lit_paths.specs.Members.{IsCandidate, AreSources}
+use Rattle.lit_paths.specs.Choice.{candidates_of, product, sources_of}
 use Rattle.lit_paths.specs.Numbers.{length_product, ways_from}
 use Rattle.lit_paths.proofs.Candidates.{candidates_of-found}
 use Rattle.std.proofs.lemmas.List.{drop_all, drop_more}

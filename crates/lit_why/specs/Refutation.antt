@@ -2,7 +2,8 @@
 -- has one source; and covers by refuted boxes (this project's own; the clauses are those of ECMA-262, 2024, 29.7).
 use Rattle.std.specs.Prelude.{◌≡◌, ◌≢◌, ◌↔◌, ℕ, Bool, IsTrue, Option, Some, None, List, length, slice_get}
 use Rattle.lit_syntax.specs.Syntax.{Litmus}
-use Rattle.lit_paths.specs.ByteReads.{IsCandidate, byte_reads}
+use Rattle.lit_paths.specs.ByteReads.{byte_reads}
+use Rattle.lit_paths.specs.Members.{IsCandidate}
 use Rattle.lit_rel.specs.Coherent.{Hides}
 use Rattle.lit_rel.specs.TearFree.{ReadsWholeBy}
 use Rattle.lit_rel.specs.declared.event_set.EventSet.{EventSet}

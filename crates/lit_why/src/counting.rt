@@ -1,7 +1,8 @@
 //! How many choices give the reads of a combination that are asked about the same values.
 
 ghost use Rattle.std.specs.Prelude.{◌≡◌, ℕ, ◌<◌, Some, filter, length, slice_get};
-ghost use Rattle.lit_paths.specs.Choice.{AreSources, sources_of};
+ghost use Rattle.lit_paths.specs.Choice.{sources_of};
+ghost use Rattle.lit_paths.specs.Members.{AreSources};
 ghost use Rattle.lit_solve.specs.Box.{events_on};
 ghost use Rattle.lit_why.specs.Attempts.{agree, give_same_values};
 

@@ -1,6 +1,6 @@
 //! The domains that a search begins with: all candidates of each byte read.
 
-ghost use Rattle.lit_paths.specs.ByteReads.{IsCandidate};
+ghost use Rattle.lit_paths.specs.Members.{IsCandidate};
 ghost use Rattle.lit_solve.specs.Box.{events_on};
 ghost use Rattle.lit_why.specs.Internal.Domains.{AreDomainsBy};
 

@@ -3,7 +3,8 @@
 ghost use Rattle.std.specs.Prelude.{◌≡◌, ◌↔◌, ℕ, ◌≤◌, ◌<◌, IfOk, IsTrue, OnOk, length, true};
 ghost use Rattle.lit_syntax.specs.Syntax.{IsLitmus};
 ghost use Rattle.lit_paths.specs.ByteReads.{byte_reads};
-ghost use Rattle.lit_paths.specs.Choice.{AreSources, combinations_of};
+ghost use Rattle.lit_paths.specs.Choice.{combinations_of};
+ghost use Rattle.lit_paths.specs.Members.{AreSources};
 ghost use Rattle.lit_solve.specs.Box.{HasEmptyDomain, IsBox, box_with, events_on};
 ghost use Rattle.lit_solve.specs.Fill.{AreSourcesIn};
 ghost use Rattle.lit_why.specs.Attempts.{AreFirstAttempts, HasSoMany, IsOn};

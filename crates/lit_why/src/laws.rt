@@ -3,7 +3,8 @@
 ghost use Rattle.std.specs.Prelude.{◌≡◌, ◌≢◌, ◌↔◌, ℕ, ◌<◌, List, Some, length, slice_get};
 ghost use Rattle.lit_order.specs.Forcing.{HasForcedCycle};
 ghost use Rattle.lit_order.specs.MemoryOrder.{IsMemoryOrder};
-ghost use Rattle.lit_paths.specs.Choice.{AreSources, choices_of};
+ghost use Rattle.lit_paths.specs.Choice.{choices_of};
+ghost use Rattle.lit_paths.specs.Members.{AreSources};
 ghost use Rattle.lit_paths.specs.Execution.{Execution, execution_choice};
 ghost use Rattle.lit_paths.specs.Plan.{HasSources, IsOfCombination};
 ghost use Rattle.lit_paths.specs.declared.event.Event.{Event as ExecutionEvent};

@@ -1,7 +1,8 @@
 //! Representatives: of the candidates of a byte read between which there is no difference, the least (decision 142).
 
 ghost use Rattle.std.specs.Prelude.{◌≡◌, ◌↔◌, ℕ, ◌<◌, ◌≤◌, IsTrue, length};
-ghost use Rattle.lit_paths.specs.ByteReads.{IsCandidate, byte_read_at, byte_reads};
+ghost use Rattle.lit_paths.specs.ByteReads.{byte_read_at, byte_reads};
+ghost use Rattle.lit_paths.specs.Members.{IsCandidate};
 ghost use Rattle.lit_paths.specs.declared.limits.TheConstants.{EVENT_LIMIT};
 ghost use Rattle.lit_rel.specs.EventSet.{HasEvent};
 ghost use Rattle.lit_solve.specs.Box.{events_on};

@@ -7,11 +7,11 @@ use Rattle.lit_paths.specs.declared.path.Tested.{Tested}
 -- whether the first guard asks that the value equals the number, and the guards after it
 abbrev pub asks_equal : List Tested → Bool
 asks_equal [] = false
-asks_equal (test ∷ tests) = test.equal
+asks_equal (test ∷ guards) = test.equal
 
 abbrev pub guards_behind : List Tested → List Tested
 guards_behind [] = []
-guards_behind (test ∷ tests) = tests
+guards_behind (test ∷ guards) = guards
 
 -- whether the comparison of an `if` holds where its guard asks that the value equals the number, or that it differs
 abbrev pub holds_where : (equal asked : Bool) → Bool
@@ -21,18 +21,18 @@ holds_where false asked = not asked
 -- the numbers of the statements that make the events on the way, and the guards after those of these statements
 abbrev mutual
   pub statement_makers : ℕ → Statement → List Tested → List ℕ × List Tested
-  statement_makers n (Load reg window index atomic) tests = (n ∷ [], tests)
-  statement_makers n (Store window index value atomic) tests = (n ∷ [], tests)
-  statement_makers n (Exchange reg window index value) tests = (n ∷ [], tests)
-  statement_makers n (CompareExchange reg window index expected value) tests = (n ∷ [], guards_behind tests)
-  statement_makers n (If reg equal value body other) tests =
-      if holds_where equal (asks_equal tests)
-      then makers_of (n + 1) body (guards_behind tests)
-      else makers_of (n + 1 + statement_count body) other (guards_behind tests)
+  statement_makers n (Load reg window index atomic) guards = (n ∷ [], guards)
+  statement_makers n (Store window index value atomic) guards = (n ∷ [], guards)
+  statement_makers n (Exchange reg window index value) guards = (n ∷ [], guards)
+  statement_makers n (CompareExchange reg window index expected value) guards = (n ∷ [], guards_behind guards)
+  statement_makers n (If reg equal value body other) guards =
+      if holds_where equal (asks_equal guards)
+      then makers_by_guards (n + 1) body (guards_behind guards)
+      else makers_by_guards (n + 1 + statement_count body) other (guards_behind guards)
 
-  pub makers_of : ℕ → Statements → List Tested → List ℕ × List Tested
-  makers_of n End tests = ([], tests)
-  makers_of n (Then s ss) tests = (
-    (statement_makers n s tests).0 ++ (makers_of (n + count_with_parts s) ss (statement_makers n s tests).1).0,
-    (makers_of (n + count_with_parts s) ss (statement_makers n s tests).1).1,
+  pub makers_by_guards : ℕ → Statements → List Tested → List ℕ × List Tested
+  makers_by_guards n End guards = ([], guards)
+  makers_by_guards n (Then s ss) guards = (
+    (statement_makers n s guards).0 ++ (makers_by_guards (n + count_with_parts s) ss (statement_makers n s guards).1).0,
+    (makers_by_guards (n + count_with_parts s) ss (statement_makers n s guards).1).1,
   )

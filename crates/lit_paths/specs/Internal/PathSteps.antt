@@ -1,10 +1,11 @@
 -- A path as it is built, one step after another.
-use Rattle.std.specs.Prelude.{ℕ, Some, None, List, [], ◌∷◌, ◌++◌, length, replicate, slice_set, slice_index_or}
+use Rattle.std.specs.Prelude.{ℕ, true, Some, None, List, [], ◌∷◌, ◌++◌, length, replicate, slice_set, slice_index_or}
 use Rattle.lit_syntax.specs.declared.limits.TheConstants.{REGISTERS}
 use Rattle.lit_paths.specs.declared.event.Event.{Event}
+use Rattle.lit_paths.specs.declared.event.Kind.TheVariants.{Read, Write, Modify}
 use Rattle.lit_paths.specs.declared.path.Tested.{Tested}
 use Rattle.lit_paths.specs.Path.{Step, LoadMet, StoreMet, ExchangeMet, CompareExchangeMet, IfMet}
-use Rattle.lit_paths.specs.Path.{read_event, write_event, modify_event, compare_exchange_event}
+use Rattle.lit_paths.specs.Path.{access_event, compare_exchange_event}
 use Rattle.lit_paths.specs.PathModel.{PathModel, asked}
 
 -- before the first step
@@ -26,10 +27,12 @@ with_guard path test = record { events = path.events; tests = path.tests ++ test
 
 -- one more step
 abbrev pub with_step : ℕ → PathModel → Step → PathModel
-with_step owner path (LoadMet reg window index atomic) = with_read path reg (read_event owner (length path.events) window index atomic)
+with_step owner path (LoadMet reg window index atomic) =
+    with_read path reg (access_event Read owner (length path.events) window index 0 atomic)
 with_step owner path (StoreMet window index value atomic) =
-    with_access path (write_event owner (length path.events) window index value atomic)
-with_step owner path (ExchangeMet reg window index value) = with_read path reg (modify_event owner (length path.events) window index value)
+    with_access path (access_event Write owner (length path.events) window index value atomic)
+with_step owner path (ExchangeMet reg window index value) =
+    with_read path reg (access_event Modify owner (length path.events) window index value true)
 with_step owner path (CompareExchangeMet reg window index expected value succeeds) =
     with_guard (with_read path reg (compare_exchange_event owner (length path.events) window index value succeeds))
     (record { on = Some (length path.events); equal = succeeds; value = expected })

@@ -4,7 +4,7 @@ ghost use Rattle.std.specs.Prelude.{◌≡◌, ◌+◌, ◌≤◌, ◌<◌, ◌+
 ghost use Rattle.lit_syntax.specs.Litmus.{statement_of, statements_of};
 ghost use Rattle.lit_syntax.specs.StatementOrder.{count_with_parts, statement_count};
 ghost use Rattle.lit_paths.specs.declared.limits.TheConstants.{ACCESS_LIMIT as ACCESSES};
-ghost use Rattle.lit_paths.specs.Internal.Makers.{asks_equal, guards_behind, holds_where, makers_of, statement_makers};
+ghost use Rattle.lit_paths.specs.Internal.Makers.{asks_equal, guards_behind, holds_where, makers_by_guards, statement_makers};
 ghost use Rattle.lit_paths.specs.Internal.Walks.{longest, statement_longest};
 
 use crate::limits::ACCESS_LIMIT;
@@ -18,22 +18,22 @@ use lit_syntax::{Stmt, count_with_parts, statement_count};
 pub type Makers = ArrayVec<usize, ACCESS_LIMIT>;
 
 /// Whether the first guard asks that the value equals the number; false where there is no guard.
-fn asks_equal(tests: &[Tested]) -> bool
-    ensures { result ≡ asks_equal tests.now }
+fn asks_equal(guards: &[Tested]) -> bool
+    ensures { result ≡ asks_equal guards.now }
 {
-    match tests {
+    match guards {
         [test, ..] => test.equal,
         [] => false,
     }
 }
 
 /// The guards after the first one.
-fn guards_behind(tests: &[Tested]) -> &[Tested]
-    ensures { result.now ≡ guards_behind tests.now }
+fn guards_behind(guards: &[Tested]) -> &[Tested]
+    ensures { result.now ≡ guards_behind guards.now }
 {
-    match tests {
+    match guards {
         [_, rest @ ..] => rest,
-        [] => tests,
+        [] => guards,
     }
 }
 
@@ -51,15 +51,15 @@ pub(crate) fn find_makers<'t>(
     makers: &mut Makers,
     first: usize,
     body: &[Stmt],
-    tests: &'t [Tested],
+    guards: &'t [Tested],
 ) -> &'t [Tested]
     requires room { length makers.old.items + longest (statements_of body.now) ≤ ACCESSES }
     requires fits { first + statement_count (statements_of body.now) < 2 ^ 64 }
-    ensures makers { makers.new.items ≡ makers.old.items ++ (makers_of first (statements_of body.now) tests.now).0 }
-    ensures left { result.now ≡ (makers_of first (statements_of body.now) tests.now).1 }
+    ensures makers { makers.new.items ≡ makers.old.items ++ (makers_by_guards first (statements_of body.now) guards.now).0 }
+    ensures left { result.now ≡ (makers_by_guards first (statements_of body.now) guards.now).1 }
 {
     let mut number = first;
-    let mut left = tests;
+    let mut left = guards;
     for statement in body {
         left = find_makers_at(makers, number, statement, left);
         number += count_with_parts(statement);
@@ -74,21 +74,21 @@ fn find_makers_at<'t>(
     makers: &mut Makers,
     number: usize,
     statement: &Stmt,
-    tests: &'t [Tested],
+    guards: &'t [Tested],
 ) -> &'t [Tested]
     requires room { length makers.old.items + statement_longest (statement_of statement.now) ≤ ACCESSES }
     requires fits { number + count_with_parts (statement_of statement.now) < 2 ^ 64 }
-    ensures makers { makers.new.items ≡ makers.old.items ++ (statement_makers number (statement_of statement.now) tests.now).0 }
-    ensures left { result.now ≡ (statement_makers number (statement_of statement.now) tests.now).1 }
+    ensures makers { makers.new.items ≡ makers.old.items ++ (statement_makers number (statement_of statement.now) guards.now).0 }
+    ensures left { result.now ≡ (statement_makers number (statement_of statement.now) guards.now).1 }
 {
     match statement {
         Stmt::Load { .. } | Stmt::Store { .. } | Stmt::Exchange { .. } => {
             makers.push(number);
-            tests
+            guards
         }
         Stmt::CompareExchange { .. } => {
             makers.push(number);
-            guards_behind(tests)
+            guards_behind(guards)
         }
         Stmt::If {
             equal,
@@ -96,8 +96,8 @@ fn find_makers_at<'t>(
             other,
             ..
         } => {
-            let left = guards_behind(tests);
-            if holds_where(*equal, asks_equal(tests)) {
+            let left = guards_behind(guards);
+            if holds_where(*equal, asks_equal(guards)) {
                 find_makers(makers, number + 1, body, left)
             } else {
                 find_makers(makers, number + 1 + statement_count(body), other, left)

@@ -6,7 +6,8 @@ ghost use Rattle.lit_paths.specs.declared.limits.TheConstants.{ACCESS_LIMIT as A
 ghost use Rattle.lit_paths.specs.declared.limits.TheConstants.{CHOICE_LIMIT as CHOICES};
 ghost use Rattle.lit_paths.specs.declared.fault.PlanFault.TheVariants.{OutOfMemory, TooManyChoices};
 ghost use Rattle.lit_paths.specs.Choice.{sources_of, combinations_of, choices_of};
-ghost use Rattle.lit_paths.specs.Plan.{events_in, HasFewEvents, IsPlanFault};
+ghost use Rattle.lit_paths.specs.Plan.{events_in, IsPlanFault};
+ghost use Rattle.lit_paths.specs.Refusal.{HasFewEvents};
 ghost use Rattle.lit_paths.specs.Internal.Walks.{longest_of, count_of, many_walks};
 ghost use Rattle.lit_paths.specs.Internal.Totals.{totals_below};
 

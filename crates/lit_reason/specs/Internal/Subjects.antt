@@ -2,7 +2,7 @@
 use Rattle.std.specs.Prelude.{◌≡◌, ℕ, ◌<◌, Bool, true, false, cond, nat_lt, List, codes, length, ⊤}
 use Rattle.lit_syntax.specs.Syntax.{Litmus}
 use Rattle.lit_paths.specs.Choice.{choices_of}
-use Rattle.lit_paths.specs.Plan.{IsRefusal}
+use Rattle.lit_paths.specs.Refusal.{IsRefusal}
 use Rattle.lit_report.specs.EntryText.{line}
 use Rattle.lit_reason.specs.AnswerText.{HasBehind, IsChoiceText, IsClassText, IsRaceText, no_choice_line, test_line}
 use Rattle.lit_reason.specs.declared.explanation.Subject.{Subject}

@@ -3,7 +3,7 @@ use Rattle.std.specs.Prelude.{◌≡◌, ◌≢◌, ℕ, ◌+◌, ◌-◌, ◌<�
 use Rattle.std.specs.Prelude.{Option, Some, length, option_map, slice_index}
 use Rattle.lit_syntax.specs.Syntax.{Litmus}
 use Rattle.lit_paths.specs.declared.event.Event.{Event}
-use Rattle.lit_paths.specs.Choice.{AreSources}
+use Rattle.lit_paths.specs.Members.{AreSources}
 use Rattle.lit_paths.specs.Plan.{HasSources, choices_before, events_in}
 use Rattle.lit_solve.specs.declared.boxes.ends.End.{End}
 

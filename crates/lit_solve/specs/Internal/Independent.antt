@@ -2,7 +2,7 @@
 use Rattle.std.specs.Prelude.{◌≡◌, ℕ, ◌<◌, ◌≤◌, List, None, Some, length, slice_get, slice_index_or}
 use Rattle.lit_paths.specs.declared.event.Event.{Event}
 use Rattle.lit_paths.specs.ByteReads.{byte_reads}
-use Rattle.lit_paths.specs.Choice.{AreSources}
+use Rattle.lit_paths.specs.Members.{AreSources}
 use Rattle.lit_rel.specs.Broken.{HasFalseGuardOn}
 use Rattle.lit_rel.specs.ReadsFrom.{value_of}
 use Rattle.lit_order.specs.MemoryOrder.{HasOrder, IsLeastOrderOf}

@@ -1,7 +1,8 @@
 -- What the domains of a box say of attempts by sources that lie in it.
 use Rattle.std.specs.Prelude.{Some, ℕ, ◌+◌, ◌<◌, ◌≤◌, Bool, IsTrue, true, false, List, length}
 use Rattle.lit_syntax.specs.Syntax.{Litmus}
-use Rattle.lit_paths.specs.ByteReads.{IsCandidate, byte_reads}
+use Rattle.lit_paths.specs.ByteReads.{byte_reads}
+use Rattle.lit_paths.specs.Members.{IsCandidate}
 use Rattle.lit_paths.specs.Plan.{choices_before}
 use Rattle.lit_rel.specs.Broken.{HasFalseGuard, HasFalseGuardOn}
 use Rattle.lit_rel.specs.ReadsFrom.{value_of}

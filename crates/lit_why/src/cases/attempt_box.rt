@@ -1,8 +1,8 @@
 //! The box of an attempt.
 
 ghost use Rattle.std.specs.Prelude.{◌≡◌, ◌↔◌, ℕ, ◌<◌, ◌≤◌, IsTrue, length};
-ghost use Rattle.lit_paths.specs.ByteReads.{IsCandidate, byte_read_at, byte_reads};
-ghost use Rattle.lit_paths.specs.Choice.{AreSources};
+ghost use Rattle.lit_paths.specs.ByteReads.{byte_read_at, byte_reads};
+ghost use Rattle.lit_paths.specs.Members.{IsCandidate, AreSources};
 ghost use Rattle.lit_paths.specs.declared.limits.TheConstants.{EVENT_LIMIT as EVENTS};
 ghost use Rattle.lit_rel.specs.EventSet.{HasEvent};
 ghost use Rattle.lit_solve.specs.Box.{events_on};

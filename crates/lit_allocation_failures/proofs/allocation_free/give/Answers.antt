@@ -4,7 +4,8 @@ use Rattle.std.proofs.lemmas.Option.{slice_get-get_or}
 use Rattle.std.specs.List.{list_any, slice_get}
 use Rattle.lit_syntax.specs.Syntax.{Litmus}
 use Rattle.lit_paths.specs.ByteReads.{byte_read_at, byte_reads}
-use Rattle.lit_paths.specs.Plan.{ListsCandidates, events_in}
+use Rattle.lit_paths.specs.Plan.{events_in}
+use Rattle.lit_paths.specs.Members.{ListsCandidates}
 use Rattle.lit_rel.specs.Part.{part_events}
 use Rattle.lit_allocation_failures.proofs.allocation_free.give.Goals as goal
 

@@ -20,8 +20,8 @@ returns c =
       | in-Some+in_ok-write_all+in_ok-put_placed+in_ok-write_all-2+in_ok-put_placed-2+in_ok-deeds_text+in_ok-write_all-3 w ↦
           let pair = w.in-Some.pair in
           let least = w.in-Some.ensures in
-          let first = w.in_ok-put_placed.ensures least.is_race.race.first_known in
-          let second = w.in_ok-put_placed-2.ensures least.is_race.race.second_known in
+          let first = w.in_ok-put_placed.ensures least.is_race.first_known in
+          let second = w.in_ok-put_placed-2.ensures least.is_race.second_known in
           inl (
             n,
             c.requires.races,

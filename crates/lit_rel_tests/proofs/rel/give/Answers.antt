@@ -2,8 +2,9 @@ use Rattle.std.proofs.Common.{rules, ◌≡◌, ℕ, ◌<◌, length, sym, ap, �
 use Rattle.std.proofs.lemmas.Option.{slice_get-get_or}
 use Rattle.std.specs.List.{slice_get}
 use Rattle.lit_syntax.specs.Syntax.{Litmus}
-use Rattle.lit_paths.specs.ByteReads.{IsCandidate, byte_read_at, byte_reads}
-use Rattle.lit_paths.specs.Plan.{ListsCandidates, events_in}
+use Rattle.lit_paths.specs.ByteReads.{byte_read_at, byte_reads}
+use Rattle.lit_paths.specs.Members.{IsCandidate, ListsCandidates}
+use Rattle.lit_paths.specs.Plan.{events_in}
 use Rattle.lit_rel.specs.Part.{IsNextSource, PartModel, part_events}
 use Rattle.lit_rel_tests.proofs.GivingLemmas.{place_of_any}
 use Rattle.lit_rel_tests.proofs.rel.give.Goals as goal

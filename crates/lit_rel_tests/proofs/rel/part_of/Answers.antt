@@ -4,7 +4,7 @@ use Rattle.std.proofs.lemmas.Option.{slice_get-get_or}
 use Rattle.std.specs.List.{slice_get}
 use Rattle.lit_syntax.specs.Syntax.{Litmus}
 use Rattle.lit_paths.specs.ByteReads.{byte_reads}
-use Rattle.lit_paths.specs.Choice.{AreSources}
+use Rattle.lit_paths.specs.Members.{AreSources}
 use Rattle.lit_paths.specs.Plan.{events_in}
 use Rattle.lit_rel.specs.Part.{IsNextSource, PartModel, part_events}
 use Rattle.lit_rel_tests.proofs.rel.part_of.Goals as goal

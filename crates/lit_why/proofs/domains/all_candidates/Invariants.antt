@@ -1,4 +1,4 @@
-use Rattle.lit_paths.specs.ByteReads.{IsCandidate}
+use Rattle.lit_paths.specs.Members.{IsCandidate}
 use Rattle.lit_solve.specs.Box.{events_on}
 use Rattle.lit_why.proofs.DomainLemmas.{AreFirstBy}
 use Rattle.lit_why.proofs.domains.all_candidates.Given as goal

@@ -1,6 +1,6 @@
 use Rattle.std.proofs.Common.{◌<◌, length, subst, sym, ℕ}
 use Rattle.lit_syntax.specs.Syntax.{Litmus}
-use Rattle.lit_paths.specs.ByteReads.{IsCandidate}
+use Rattle.lit_paths.specs.Members.{IsCandidate}
 use Rattle.lit_paths.specs.Choice.{combinations_of}
 use Rattle.lit_solve.specs.Box.{events_on}
 use Rattle.lit_why.specs.LeastMixing.{HasNoneOn, IsShownOn}

@@ -3,7 +3,8 @@ use Rattle.std.specs.Prelude.{IsTrue}
 use Rattle.std.proofs.lemmas.Bool.{false≢true}
 use Rattle.lit_paths.specs.declared.byte_reads.ByteRead.{ByteRead}
 use Rattle.lit_paths.specs.declared.event.Event.{Event}
-use Rattle.lit_paths.specs.ByteReads.{IsCandidate, byte_read_at, pair_of}
+use Rattle.lit_paths.specs.ByteReads.{byte_read_at, pair_of}
+use Rattle.lit_paths.specs.Members.{IsCandidate}
 use Rattle.lit_rel.specs.EventSet.{HasEvent}
 use Rattle.lit_solve.specs.Box.{events_on}
 use Rattle.lit_solve.specs.Prunable.{IsRefusedOn}

@@ -3,7 +3,8 @@ use Rattle.std.proofs.lemmas.Option.{slice_get-get_or}
 use Rattle.std.specs.List.{slice_get}
 use Rattle.lit_syntax.specs.Syntax.{Litmus}
 use Rattle.lit_paths.specs.ByteReads.{byte_read_at, byte_reads}
-use Rattle.lit_paths.specs.Plan.{ListsCandidates, events_in}
+use Rattle.lit_paths.specs.Plan.{events_in}
+use Rattle.lit_paths.specs.Members.{ListsCandidates}
 use Rattle.lit_rel.specs.Part.{part_events}
 use Rattle.lit_why_tests.proofs.GivingLemmas.{place_of_any}
 use Rattle.lit_why_tests.proofs.why.give.Goals as goal

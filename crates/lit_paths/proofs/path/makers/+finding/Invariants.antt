@@ -11,4 +11,4 @@ abbrev pub decreases-find_makers_at : goal.decreases-find_makers_at
 decreases-find_makers_at l = 2 * statement_size (statement_of l.statement.now)
 
 abbrev pub invariant-find_makers-loop-statement : goal.invariant-find_makers-loop-statement
-invariant-find_makers-loop-statement l = IsFinding l.body l.first l.tests l.initial.makers.items l.statement-index l.number l.left l.makers.items
+invariant-find_makers-loop-statement l = IsFinding l.body l.first l.guards l.initial.makers.items l.statement-index l.number l.left l.makers.items

@@ -2,7 +2,8 @@ use Rattle.std.proofs.Common.{arith, ap, sym, ◌∙◌, subst, length, List, �
 use Rattle.lit_paths.specs.declared.event.Event.{Event}
 use Rattle.lit_paths.specs.Event.{event_at}
 use Rattle.lit_paths.specs.Choice.{candidates_of}
-use Rattle.lit_paths.specs.Plan.{events_in, ListsCandidates}
+use Rattle.lit_paths.specs.Plan.{events_in}
+use Rattle.lit_paths.specs.Members.{ListsCandidates}
 use Rattle.lit_paths.specs.declared.limits.TheConstants.{EVENT_LIMIT}
 use Rattle.lit_paths.proofs.Candidates.{length-candidates_from}
 use Rattle.lit_paths.proofs.PlanFacts.{lists-candidates}

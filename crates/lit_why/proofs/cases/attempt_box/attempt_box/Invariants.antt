@@ -1,5 +1,6 @@
 use Rattle.std.specs.Prelude.{IsTrue}
-use Rattle.lit_paths.specs.ByteReads.{IsCandidate, byte_reads}
+use Rattle.lit_paths.specs.ByteReads.{byte_reads}
+use Rattle.lit_paths.specs.Members.{IsCandidate}
 use Rattle.lit_solve.specs.Box.{events_on}
 use Rattle.lit_why.specs.Asked.{is_asked}
 use Rattle.lit_why.specs.Attempts.{agree}

@@ -2,7 +2,8 @@ use Rattle.std.proofs.Common.{◌≡◌, ◌<◌, ℕ, Some, arith, inl, inr, le
 use Rattle.std.specs.Prelude.{slice_get}
 use Rattle.std.proofs.lemmas.Bool.{cases_eq, false≢true}
 use Rattle.std.proofs.lemmas.Option.{same_Some, slice_get_within}
-use Rattle.lit_paths.specs.ByteReads.{IsCandidate, byte_read_at, byte_reads}
+use Rattle.lit_paths.specs.ByteReads.{byte_read_at, byte_reads}
+use Rattle.lit_paths.specs.Members.{IsCandidate}
 use Rattle.lit_solve.specs.Box.{HasSource, box_with, events_on}
 use Rattle.lit_solve.proofs.PruningLemmas.{read_here}
 use Rattle.lit_why.proofs.TrialLemmas.{reads_len}
