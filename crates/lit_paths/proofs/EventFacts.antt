@@ -48,7 +48,7 @@ window-sized DataView16 = inr (inl refl)
 window-sized DataView32 = inr (inr refl)
 
 pub window-in_block : (bytes index : ℕ) (window : Window) → IsTrue (is_in_block bytes window index) → first_byte window index + window_size window ≤ bytes
-window-in_block bytes index Uint8 h = omega (arith, ltb-true index bytes h)
+window-in_block bytes index Uint8 h = omega (arith, ltb-true index (bytes / 1) h)
 window-in_block bytes index Uint16 h = omega (arith, ltb-true index (bytes / 2) h)
 window-in_block bytes index Uint32 h = omega (arith, ltb-true index (bytes / 4) h)
 window-in_block bytes index DataView8 h = omega (arith, leb-true (index + 1) bytes h)

@@ -9,9 +9,9 @@ use Rattle.lit_read.specs.declared.fault.ReadKind.TheVariants.{TooDeep}
 use Rattle.lit_syntax.specs.declared.limits.TheConstants.{DEPTH_LIMIT}
 use Rattle.lit_syntax.specs.Syntax.{Condition, Conditions, Not, NoMore, Also, Agent}
 use Rattle.lit_syntax.specs.Written.{Comparison, Operand, Compared, Negated, Grouped, Conjunction, Lone, Both, Written, Single, Either, operand_depths, conjunction_depths, written_depths, is_shallow}
-use Rattle.lit_read.specs.Spelling.{numbered, operand_value, conjunction_value, written_value, operand_values, conjunction_values}
+use Rattle.lit_read.specs.Spelling.{operand_value, conjunction_value, written_value, operand_values, conjunction_values}
 use Rattle.lit_read.specs.Internal.Marks.{Mark, Bang, Opens, Closes, Joins, Parts, Compares, operand_marks, conjunction_marks, written_marks}
-use Rattle.lit_read.specs.Internal.Built.{Group, Groups, pushed, negated, all_of, any_of, with_operand, asked, empty_group, begun, build_step, and_then, build}
+use Rattle.lit_read.specs.Internal.Built.{Group, Groups, pushed, negated, all_of, any_of, with_operand, asked, empty_group, begun, build_step, and_then, build, numbered}
 
 -- ---- lists
 

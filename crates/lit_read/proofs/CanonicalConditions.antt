@@ -9,8 +9,9 @@ use Rattle.std.proofs.lemmas.List.{append-nil}
 use Rattle.lit_syntax.specs.declared.symbol.Symbol.TheVariants.{Same, Differs, And, Or, Not, OpenParen, CloseParen, Dot}
 use Rattle.lit_syntax.specs.declared.limits.TheConstants.{REGISTERS, COMPARED_LIMIT}
 use Rattle.lit_syntax.specs.Tokens.{Token, Sign, begins_with, begins_word, IsWord}
-use Rattle.lit_syntax.specs.Written.{Comparison, Operand, Compared, Negated, Grouped, Conjunction, Lone, Both, Written, Single, Either, comparison_tokens, operand_tokens, conjunction_tokens, written_tokens, operand_depths, conjunction_depths, written_depths}
+use Rattle.lit_syntax.specs.Written.{Comparison, Operand, Compared, Negated, Grouped, Conjunction, Lone, Both, Written, Single, Either, operand_tokens, conjunction_tokens, written_tokens, operand_depths, conjunction_depths, written_depths}
 use Rattle.lit_syntax.specs.Forms.{CheckLine, spelled}
+use Rattle.lit_read.specs.Internal.Marks.{comparison_tokens}
 use Rattle.lit_read.specs.CanonicalText.{joined, register_text, relation_text, comparison_text, operand_text, conjunction_text, written_text, form_text}
 use Rattle.lit_syntax.proofs.ListLemmas.{all_parts}
 use Rattle.lit_read.proofs.CleanLines.{IsClean, clean_nil, clean_blank, word_is, clean_word, clean_sign, clean_number, clean_register, onto, onto_is}

@@ -1,9 +1,10 @@
 -- The canonical forms of a test are its forms.
-use Rattle.std.proofs.Common.{◌≡◌, ◌≢◌, ℕ, zero, suc, ◌<◌, ◌≤◌, Bool, true, false, List, [], ◌∷◌, length, get_or, inl, refl, ap, sym, ◌∙◌, arith}
+use Rattle.std.proofs.Common.{◌≡◌, ◌≢◌, ℕ, zero, suc, ◌<◌, ◌≤◌, Bool, true, false, List, [], ◌∷◌, ◌++◌, length, get_or, inl, inr, refl, ap, sym, ◌∙◌, arith}
 use Rattle.std.specs.Str.{bytes_eq}
 use Rattle.std.proofs.lemmas.Slice.Eq.{bytes_eq-Decides}
 use Rattle.lit_syntax.specs.Syntax.{Statement, Statements, Load, Store, Exchange, CompareExchange, If, End, Then, Condition, Conditions, Any, All, Not, Is, NoMore, Also, condition_count, Agent, Litmus, IsConditionOn, AreConditionsOn, IsLitmus}
-use Rattle.lit_read.specs.Structure.{IsStatement, AreStatements, AreElse, AreAgents}
+use Rattle.lit_read.specs.Structure.{IsStatement, AreStatements, AreAgents}
+use Rattle.lit_read.proofs.SpellLemmas.{HasElse}
 use Rattle.lit_read.specs.Spelling.{place_of, operand_value, conjunction_value, written_value, operand_values, conjunction_values, AreFormsOf}
 use Rattle.lit_read.specs.Canonical.{statement_forms, statements_forms, else_forms, agents_forms, canonical_forms}
 use Rattle.lit_syntax.specs.Parentheses.{named, operand_of, conjunction_of, all_written, any_written, written_of}
@@ -22,9 +23,9 @@ mutual
   statements_are End = refl
   statements_are (Then s ss) = (statement_forms s, statements_forms ss, refl, statement_is s, statements_are ss)
 
-  else_is : (ss : Statements) → AreElse (else_forms ss) ss
-  else_is End = inl refl
-  else_is (Then s ss) = (statement_forms s, statements_forms ss, refl, statement_is s, statements_are ss)
+  else_is : (ss : Statements) → HasElse (else_forms ss) ss
+  else_is End = inl (refl, refl)
+  else_is (Then s ss) = inr (statement_forms s ++ statements_forms ss, refl, (statement_forms s, statements_forms ss, refl, statement_is s, statements_are ss))
 
 pub agents_are : (agents : List Agent) → AreAgents (agents_forms agents) agents
 agents_are [] = refl

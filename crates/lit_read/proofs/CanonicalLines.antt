@@ -8,7 +8,7 @@ use Rattle.lit_syntax.specs.declared.limits.TheConstants.{BLOCK_LIMIT, REGISTERS
 use Rattle.lit_syntax.specs.Syntax.{Window, Uint8, Uint16, Uint32, DataView8, DataView16, DataView32, is_data_view, Statement, Load, Store, Exchange, CompareExchange, If, is_in_block, fits_window, IsStatementIn}
 use Rattle.lit_syntax.specs.Tokens.{Token, Word, Number, Sign, begins_with, IsWord}
 use Rattle.lit_syntax.specs.Written.{register_word}
-use Rattle.lit_syntax.specs.Forms.{TestLine, BytesLine, AgentLine, IfLine, ElseLine, EndLine, window_word, read_tokens, store_tokens, statement_tokens, spelled, IsAccess}
+use Rattle.lit_syntax.specs.Forms.{TestLine, BytesLine, AgentLine, StatementLine, IfLine, ElseLine, EndLine, window_word, read_tokens, store_tokens, statement_tokens, spelled, IsForm}
 use Rattle.lit_read.specs.CanonicalText.{joined, register_text, read_text, store_text, statement_text, form_text}
 use Rattle.lit_read.proofs.DraftLemmas.{in_block_small, fitting_small}
 use Rattle.lit_read.proofs.CleanLines.{IsClean, clean_nil, clean_blank, word_is, clean_word, clean_sign, clean_number, clean_register, clean_pieces}
@@ -120,7 +120,8 @@ value_small window value h = let lt = fitting_small window value h in omega arit
 closed : IsClean (codes ")") (Sign CloseParen ∷ [])
 closed = clean_sign CloseParen tt clean_nil
 
-pub statement_clean : (bytes : ℕ) (s : Statement) → bytes ≤ BLOCK_LIMIT → IsStatementIn bytes s → IsAccess s → IsClean (statement_text s) (statement_tokens s)
+pub statement_clean : (bytes : ℕ) (s : Statement) → bytes ≤ BLOCK_LIMIT → IsStatementIn bytes s → IsForm (StatementLine s) → IsClean (statement_text s) (statement_tokens s)
+unfolding IsForm
 statement_clean bytes (Load reg window index false) few is access = assigns reg is.0 (read_clean window index (index_small bytes window index few is.1))
 statement_clean bytes (Load reg window index true) few is access = assigns reg is.0 (atomic (codes "load") window index (word_is (codes "load") refl) (access.1 refl) (index_small bytes window index few is.1) refl closed)
 statement_clean bytes (Store window index value false) few is access = store_clean window index value (index_small bytes window index few is.0) (value_small window value is.1)

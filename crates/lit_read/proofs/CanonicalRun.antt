@@ -7,7 +7,7 @@ use Rattle.lit_syntax.specs.declared.limits.TheConstants.{TEXT_LIMIT, BLOCK_LIMI
 use Rattle.lit_syntax.specs.Syntax.{Statement, Statements, Load, Store, Exchange, CompareExchange, If, End, Then, IsStatementIn, AreStatementsIn, Agent, Litmus, IsLitmus}
 use Rattle.lit_read.specs.Lines.{lines_of, lines_from, ended_lines}
 use Rattle.lit_syntax.specs.Tokens.{IsWord}
-use Rattle.lit_syntax.specs.Forms.{Form, Blank, TestLine, BytesLine, AgentLine, StatementLine, IfLine, ElseLine, EndLine, CheckLine, spelled, IsAccess, IsForm, HasForm, HaveForms, without_blanks}
+use Rattle.lit_syntax.specs.Forms.{Form, Blank, TestLine, BytesLine, AgentLine, StatementLine, IfLine, ElseLine, EndLine, CheckLine, spelled, IsForm, HasForm, HaveForms, without_blanks}
 use Rattle.lit_read.specs.Faults.{is_allowed}
 use Rattle.lit_syntax.specs.Written.{is_shallow}
 use Rattle.lit_read.specs.Spelling.{written_value, AreFormsOf, Spells}
@@ -45,7 +45,7 @@ shown_then : (fs gs : List Form) → AreShown fs → AreShown gs → AreShown (f
 shown_then [] gs a b = b
 shown_then (f ∷ fs) gs a b = (a.0, shown_then fs gs a.1 b)
 
-access_shown : (bytes : ℕ) (s : Statement) → bytes ≤ BLOCK_LIMIT → IsStatementIn bytes s → IsAccess s → IsShown (StatementLine s)
+access_shown : (bytes : ℕ) (s : Statement) → bytes ≤ BLOCK_LIMIT → IsStatementIn bytes s → IsForm (StatementLine s) → IsShown (StatementLine s)
 unfolding IsForm spelled
 access_shown bytes s few is access = record { can_stand = access; clean = statement_clean bytes s few is access }
 
@@ -62,6 +62,8 @@ unfolding IsForm
 end_shown = record { can_stand = tt; clean = end_clean }
 
 mutual
+  unfolding IsForm
+
   statement_shown : (bytes : ℕ) (s : Statement) → bytes ≤ BLOCK_LIMIT → IsStatementIn bytes s → AreShown (statement_forms s)
   statement_shown bytes (Load r w i a) few is = (access_shown bytes (Load r w i a) few is (is.0, is.2), tt)
   statement_shown bytes (Store w i v a) few is = (access_shown bytes (Store w i v a) few is is.2, tt)

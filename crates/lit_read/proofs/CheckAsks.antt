@@ -9,9 +9,9 @@ use Rattle.lit_syntax.specs.Syntax.{End, writes, Agent, Litmus, IsConditionOn, A
 use Rattle.lit_syntax.specs.Tokens.{IsWord}
 use Rattle.lit_syntax.specs.Written.{Comparison, Operand, Compared, Negated, Grouped, Conjunction, Lone, Both, Written, Single, Either, operand_depths, conjunction_depths, written_depths}
 use Rattle.lit_syntax.specs.Forms.{CheckLine, IsForm}
-use Rattle.lit_read.specs.Faults.{has_small_numbers}
-use Rattle.lit_read.specs.Spelling.{place_of, numbered, operand_value, conjunction_value, written_value, operand_values, conjunction_values}
-use Rattle.lit_read.specs.Internal.State.{body_named, is_known, are_known}
+use Rattle.lit_read.specs.Internal.Built.{numbered}
+use Rattle.lit_read.specs.Spelling.{place_of, operand_value, conjunction_value, written_value, operand_values, conjunction_values}
+use Rattle.lit_read.specs.Internal.State.{body_named, is_known, are_known, has_small_numbers}
 use Rattle.lit_syntax.proofs.ListLemmas.{all_both, all_weaker, all_pass}
 use Rattle.lit_read.proofs.CanonicalConditions.{IsWritable, AreWritable}
 

@@ -17,11 +17,10 @@ use Rattle.lit_syntax.specs.declared.limits.TheConstants.{AGENT_LIMIT, COMPARED_
 use Rattle.lit_syntax.specs.Syntax.{Agent, Statements, End, Condition, IsLitmus}
 use Rattle.lit_syntax.specs.Written.{Comparison, Operand, Compared, Negated, Grouped, Conjunction, Lone, Both, Written, Single, Either, operand_depths, conjunction_depths, written_depths, is_shallow}
 use Rattle.lit_syntax.specs.Forms.{CheckLine, IsForm}
-use Rattle.lit_read.specs.Faults.{has_small_numbers}
 use Rattle.lit_read.specs.Spelling.{written_value}
 use Rattle.lit_read.specs.Internal.Marks.{Mark, Bang, Opens, Closes, Joins, Parts, Compares, operand_marks, conjunction_marks, written_marks, is_small}
 use Rattle.lit_read.specs.Internal.Built.{build, begun}
-use Rattle.lit_read.specs.Internal.State.{State, Open, Whole, OpenIf, with_agent, is_known, is_known_mark, are_known, next_step, agent_step, test_of, check_step, IsState}
+use Rattle.lit_read.specs.Internal.State.{State, Open, Whole, OpenIf, with_agent, is_known, is_known_mark, are_known, next_step, agent_step, test_of, check_step, IsState, has_small_numbers}
 use Rattle.lit_read.specs.Internal.Views.{mark_view, mark_views, open_if_view, Fails}
 use Rattle.lit_read.proofs.BuildLemmas.{built}
 use Rattle.lit_read.proofs.StepLemmas.{check_preserved}

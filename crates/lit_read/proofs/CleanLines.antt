@@ -1,5 +1,5 @@
 -- Lines of printable bytes, and the tokens that they are cut into.
-use Rattle.std.proofs.Common.{◌≡◌, ℕ, zero, suc, ◌+◌, ◌-◌, ◌*◌, ◌^◌, ◌<◌, Bool, true, false, leb, ◌&&◌, List, [], ◌∷◌, ◌++◌, length, get_or, refl, ap, sym, subst, ◌∙◌, append_assoc, arith, rules}
+use Rattle.std.proofs.Common.{◌≡◌, ℕ, zero, suc, ◌+◌, ◌-◌, ◌*◌, ◌^◌, ◌<◌, Bool, true, false, not, eqb, leb, ◌&&◌, inl, inr, List, [], ◌∷◌, ◌++◌, length, get_or, refl, ap, sym, subst, ◌∙◌, append_assoc, arith, rules}
 use Rattle.std.specs.Prelude.{fold}
 use Rattle.std.specs.List.{list_all}
 use Rattle.std.specs.Char.{is_ascii_digit}
@@ -12,7 +12,7 @@ use Rattle.std.proofs.lemmas.List.{append-nil}
 use Rattle.lit_syntax.specs.declared.symbol.Symbol.{Symbol}
 use Rattle.lit_syntax.specs.declared.symbol.Symbol.TheVariants.{Same, Differs, And, Or, Gives, Not, OpenBracket, CloseBracket, OpenParen, CloseParen, OpenBrace, CloseBrace, Comma, Dot}
 use Rattle.lit_syntax.specs.declared.limits.TheConstants.{WORD_LIMIT, REGISTERS}
-use Rattle.lit_syntax.specs.Tokens.{Token, Word, Number, Sign, begins_word, is_in_word, begins_with, IsWord, IsNumber, digits_value, has_plain_lead, symbol_text, IsTokenText, CanEndBefore, CutsInto}
+use Rattle.lit_syntax.specs.Tokens.{Token, Word, Number, Sign, begins_word, is_in_word, begins_with, IsWord, IsNumber, digits_value, symbol_text, IsTokenText, CanEndBefore, CutsInto}
 use Rattle.lit_syntax.specs.Written.{register_word}
 use Rattle.lit_read.specs.CanonicalText.{joined, register_text}
 use Rattle.lit_read.proofs.SpellLemmas.{all_joined}
@@ -28,21 +28,19 @@ pub record IsClean (line : List ℕ) (tokens : List Token) : Type 0 where
 
 pub clean_nil : IsClean [] []
 unfolding CutsInto
-clean_nil = record { cut = record { blanks = []; comment = []; parts = refl; all_blank = refl; ended = refl }; printable = refl }
+clean_nil = record { cut = ([], [], refl, refl, inl refl); printable = refl }
 
 blank_cut : (line : List ℕ) (ts : List Token) → CutsInto line ts → CutsInto (32 ∷ line) ts
 unfolding CutsInto
-blank_cut line [] h = record { blanks = 32 ∷ h.blanks; comment = h.comment; parts = ap (λ (l : List ℕ). 32 ∷ l) h.parts; all_blank = h.all_blank; ended = h.ended }
-blank_cut line (t ∷ ts) h =
-    let c = h.1 in
-    (h.0, record { blanks = 32 ∷ c.blanks; text = c.text; parts = ap (λ (l : List ℕ). 32 ∷ l) c.parts; all_blank = c.all_blank; spelled = c.spelled; longest = c.longest }, h.2)
+blank_cut line [] h = (32 ∷ h.0, h.1, ap (λ (l : List ℕ). 32 ∷ l) h.2, h.3, h.4)
+blank_cut line (t ∷ ts) h = (32 ∷ h.0, h.1, h.2, ap (λ (l : List ℕ). 32 ∷ l) h.3, h.4, h.5, h.6, h.7)
 
 pub clean_blank : {line : List ℕ} {ts : List Token} → IsClean line ts → IsClean (32 ∷ line) ts
 clean_blank {line} {ts} h = record { cut = blank_cut line ts h.cut; printable = h.printable }
 
 token_cut : (t : Token) (text line : List ℕ) (ts : List Token) → IsTokenText t text → CanEndBefore t line → CutsInto line ts → CutsInto (text ++ line) (t ∷ ts)
 unfolding CutsInto
-token_cut t text line ts is ends h = (line, record { blanks = []; text = text; parts = refl; all_blank = refl; spelled = is; longest = ends }, h)
+token_cut t text line ts is ends h = ([], text, line, refl, refl, is, ends, h)
 
 -- ---- printable texts
 
@@ -103,15 +101,14 @@ clean_sign symbol {line} {ts} ends h = token_clean (Sign symbol) (symbol_text sy
 numeral_model : IsNumeralModel (λ ds. list_all is_ascii_digit ds ≡ true) digits_value
 numeral_model = numerals_by_fold _ (search rules) (λ start ds. fold (λ value digit. value * 10 + (digit - 48)) start ds) (search rules)
 
-plain_lead : (ds : List ℕ) → 48 < get_or ds 0 0 → has_plain_lead ds ≡ true
+plain_lead : (ds : List ℕ) → 48 < get_or ds 0 0 → begins_with (λ b. not (eqb b 48)) ds ≡ true
 plain_lead [] h = absurd (omega arith)
-plain_lead (b ∷ []) h = refl
-plain_lead (b ∷ c ∷ bs) h = grind (arith, nat_tests)
+plain_lead (b ∷ bs) h = grind (arith, nat_tests)
 
 number_is : (n : ℕ) → n < 10 ^ 10 → IsNumber (decimal n)
-number_is zero small = rw (decimal_digit 0 (omega arith)) (record { lead = refl; each = refl; short = omega arith })
+number_is zero small = rw (decimal_digit 0 (omega arith)) (record { lead = inl refl; each = refl; short = omega arith })
 number_is (suc n) small = record {
-  lead = plain_lead (decimal (suc n)) (first_decimal (suc n) (omega arith) (omega arith));
+  lead = inr (plain_lead (decimal (suc n)) (first_decimal (suc n) (omega arith) (omega arith)));
   each = digits_decimal numeral_model (suc n) (omega arith);
   short = length-decimal-le 10 (suc n) (omega arith) small (omega arith);
 }

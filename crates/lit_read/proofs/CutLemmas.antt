@@ -10,9 +10,80 @@ use Rattle.std.proofs.lemmas.List.Folds.{length-prefix_len}
 use Rattle.lit_syntax.specs.declared.symbol.Symbol.{Symbol}
 use Rattle.lit_syntax.specs.declared.symbol.Symbol.TheVariants.{Same, Differs, And, Or, Gives, Not, OpenBracket, CloseBracket, OpenParen, CloseParen, OpenBrace, CloseBrace, Comma, Dot}
 use Rattle.lit_syntax.specs.declared.limits.TheConstants.{WORD_LIMIT, DIGIT_LIMIT}
-use Rattle.lit_syntax.specs.Tokens.{Token, Word, Number, Sign, is_blank, begins_word, is_in_word, begins_with, IsWord, IsNumber, digits_value, has_plain_lead, symbol_text, IsTokenText, CanEndBefore, CutsOff, is_comment, IsTail}
-use Rattle.lit_read.specs.Internal.FirstToken.{pair_of, single_of, or_else, symbol_front, word_front, number_front, token_front, after_blanks}
+use Rattle.lit_syntax.specs.Tokens.{Token, Word, Number, Sign, is_blank, begins_word, is_in_word, begins_with, IsWord, IsNumber, digits_value, symbol_text, IsTokenText, CanEndBefore, CutsInto}
+use Rattle.lit_read.specs.Internal.FirstToken.{pair_of, single_of, or_else, symbol_front, word_front, has_plain_lead, number_front, token_front, is_comment, after_blanks}
 use Rattle.lit_read.proofs.TokenLemmas.{run_passes}
+
+-- ---- one token of a line, and its end
+
+-- the line is blanks, the token, and the rest
+pub record CutsOff (line : List ℕ) (token : Token) (rest : List ℕ) : Type 0 where
+  pub blanks : List ℕ
+  pub text : List ℕ
+  pub parts : line ≡ blanks ++ (text ++ rest)
+  pub all_blank : list_all is_blank blanks ≡ true
+  pub spelled : IsTokenText token text
+  pub longest : CanEndBefore token rest
+
+-- blanks, and then perhaps a comment
+pub record IsTail (line : List ℕ) : Type 0 where
+  pub blanks : List ℕ
+  pub comment : List ℕ
+  pub parts : line ≡ blanks ++ comment
+  pub all_blank : list_all is_blank blanks ≡ true
+  pub ended : is_comment comment ≡ true
+
+pub cut_parts : (line : List ℕ) (t : Token) (ts : List Token) → CutsInto line (t ∷ ts) → (rest : List ℕ) × CutsOff line t rest × CutsInto rest ts
+unfolding CutsInto
+cut_parts line t ts h = (h.2, record { blanks = h.0; text = h.1; parts = h.3; all_blank = h.4; spelled = h.5; longest = h.6 }, h.7)
+
+pub cut_of : (line : List ℕ) (t : Token) (ts : List Token) (rest : List ℕ) → CutsOff line t rest → CutsInto rest ts → CutsInto line (t ∷ ts)
+unfolding CutsInto
+cut_of line t ts rest c more = (c.blanks, c.text, rest, c.parts, c.all_blank, c.spelled, c.longest, more)
+
+-- nothing, or a comment
+abbrev IsEnd : List ℕ → Type 0
+IsEnd comment = (comment ≡ []) ⊎ ((rest : List ℕ) × (comment ≡ 47 ∷ 47 ∷ rest))
+
+end_comment : (comment : List ℕ) → IsEnd comment → is_comment comment ≡ true
+end_comment comment (inl e) = rw e refl
+end_comment comment (inr h) = rw h.1 refl
+
+comment_end : (comment : List ℕ) → is_comment comment ≡ true → IsEnd comment
+comment_end [] h = inl refl
+comment_end (a ∷ []) h = absurd cc
+comment_end (a ∷ b ∷ bs) h =
+    let tests = and_parts (eqb a 47) (eqb b 47) h in
+    inr (bs, rw (eqb-true a 47 tests.0, eqb-true b 47 tests.1) refl)
+
+pub tail_parts : (line : List ℕ) → CutsInto line [] → IsTail line
+unfolding CutsInto
+tail_parts line h = record { blanks = h.0; comment = h.1; parts = h.2; all_blank = h.3; ended = end_comment h.1 h.4 }
+
+pub tail_of : (line : List ℕ) → IsTail line → CutsInto line []
+unfolding CutsInto
+tail_of line tail = (tail.blanks, tail.comment, tail.parts, tail.all_blank, comment_end tail.comment tail.ended)
+
+-- ---- the first digit
+
+pub lead_plain : (digits : List ℕ) → IsNumber digits → has_plain_lead digits ≡ true
+lead_plain digits is = by digits is.lead
+  where
+    by : (ds : List ℕ) → (ds ≡ 48 ∷ []) ⊎ (begins_with (λ b. not (eqb b 48)) ds ≡ true) → has_plain_lead ds ≡ true
+    by [] (inl e) = absurd cc
+    by [] (inr e) = absurd cc
+    by (b ∷ []) lead = refl
+    by (b ∷ c ∷ bs) (inl e) = absurd cc
+    by (b ∷ c ∷ bs) (inr e) = e
+
+pub plain_lead_is : (digits : List ℕ) → has_plain_lead digits ≡ true → (digits ≡ 48 ∷ []) ⊎ (begins_with (λ b. not (eqb b 48)) digits ≡ true)
+plain_lead_is [] h = absurd cc
+plain_lead_is (b ∷ c ∷ bs) h = inr h
+plain_lead_is (b ∷ []) h = by (eqb b 48) refl
+  where
+    by : (x : Bool) → eqb b 48 ≡ x → (b ∷ [] ≡ 48 ∷ []) ⊎ (not (eqb b 48) ≡ true)
+    by true e = inl (ap (λ (n : ℕ). n ∷ []) (eqb-true b 48 e))
+    by false e = inr (ap not e)
 
 -- ---- runs of bytes
 
@@ -63,7 +134,7 @@ number_again : (digits rest : List ℕ) → IsNumber digits → begins_with is_a
 unfolding number_front
 number_again digits rest is stop =
     let short : ltb DIGIT_LIMIT (length digits) ≡ false = le-ltb _ _ is.short in
-    rw (run_len is_ascii_digit digits rest is.each stop, short, take_at digits rest (length digits) refl, drop_at digits rest (length digits) refl, is.lead) refl
+    rw (run_len is_ascii_digit digits rest is.each stop, short, take_at digits rest (length digits) refl, drop_at digits rest (length digits) refl, lead_plain digits is) refl
 
 -- what a token begins with is no blank, and the token is computed from it
 abbrev Begins : List ℕ → Token → List ℕ → Type 0
@@ -76,7 +147,7 @@ word_begins (b ∷ bs) rest is stop = (word_is_no_blank b is.first, rw is.first 
 
 number_begins : (digits rest : List ℕ) → IsNumber digits → begins_with is_ascii_digit rest ≡ false → Begins (digits ++ rest) (Number (digits_value digits)) rest
 unfolding token_front
-number_begins [] rest is stop = absurd (true≢false (sym is.lead))
+number_begins [] rest is stop = absurd (true≢false (sym (lead_plain [] is)))
 number_begins (b ∷ bs) rest is stop = by (is_ascii_digit b) refl is.each
   where
     by : (t : Bool) → is_ascii_digit b ≡ t → (t && list_all is_ascii_digit bs) ≡ true → Begins ((b ∷ bs) ++ rest) (Number (digits_value (b ∷ bs))) rest
@@ -305,7 +376,7 @@ number_stands bytes t rest e =
     let t_is : Number (digits_value (take n bytes)) ≡ t = ap (λ (p : Token × List ℕ). p.0) g.1 in
     let rest_is : drop n bytes ≡ rest = ap (λ (p : Token × List ℕ). p.1) g.1 in
     let short : length (take n bytes) ≤ DIGIT_LIMIT = rw (length-prefix_len is_ascii_digit bytes) (ltb-false _ _ tests.0) in
-    let is : IsNumber (take n bytes) = record { lead = not_not _ tests.1; each = run_passes is_ascii_digit bytes; short = short } in
+    let is : IsNumber (take n bytes) = record { lead = plain_lead_is _ (not_not _ tests.1); each = run_passes is_ascii_digit bytes; short = short } in
     rw (← t_is, ← rest_is) (record { text = take n bytes; parts = sym (take-append-drop n bytes); spelled = (is, refl); longest = run_stops is_ascii_digit bytes })
 
 token_stands : (bytes : List ℕ) (t : Token) (rest : List ℕ) → token_front bytes ≡ Some (t, rest) → Stands bytes t rest

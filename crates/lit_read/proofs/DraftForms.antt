@@ -1,19 +1,20 @@
 -- The forms that a draft holds, and which form can follow them.
-use Rattle.std.proofs.Common.{◌≡◌, ℕ, suc, ◌≤◌, Bool, true, false, not, cond, eqb, ◌||◌, ◌&&◌, List, [], ◌∷◌, ◌++◌, length, map, Option, Some, None, is_some, refl, ap, sym, subst, ◌∙◌, arith, append_assoc}
+use Rattle.std.proofs.Common.{◌≡◌, ℕ, ◌≤◌, Bool, true, false, not, cond, ◌||◌, ◌&&◌, List, [], ◌∷◌, ◌++◌, length, map, Option, Some, None, is_some, is_none, refl, ap, sym, subst, ◌∙◌, arith, append_assoc}
 use Rattle.std.specs.Prelude.{fold}
 use Rattle.std.specs.List.{list_any}
 use Rattle.std.specs.Str.{bytes_eq}
-use Rattle.std.proofs.lemmas.Bool.{eqb-true, or_parts}
+use Rattle.std.proofs.lemmas.Bool.{or_parts}
 use Rattle.std.proofs.lemmas.List.{append-nil}
 use Rattle.std.proofs.lemmas.List.Sums.{fold-append}
 use Rattle.std.proofs.lemmas.List.Folds.{list_any-append}
 use Rattle.lit_syntax.specs.Syntax.{Statements, Agent, Litmus, writes}
+use Rattle.lit_syntax.specs.Tokens.{begins_with}
 use Rattle.lit_syntax.specs.Forms.{Form, Blank, TestLine, BytesLine, AgentLine, StatementLine, IfLine, ElseLine, EndLine, CheckLine}
 use Rattle.lit_read.specs.Structure.{is_body_line, AreStatements, AreAgents}
-use Rattle.lit_read.specs.Faults.{is_block_line, is_agent_line, is_check_line, is_begun, ends_in_test, open_behind, open_ifs, is_in_then, is_empty, block_of, names_of, line_writes, lines_write, agent_writes, is_misplaced}
+use Rattle.lit_read.specs.Faults.{is_check_line, is_begun, ends_in_test, open_behind, open_ifs, is_empty, block_of, names_of, lines_write, agent_writes, is_misplaced}
 use Rattle.lit_read.specs.Spelling.{AreFormsOf}
 use Rattle.lit_read.specs.Internal.State.{State, Empty, Named, Sized, Open, Whole, OpenIf, with_agent, body_named, IsUnfinished}
-use Rattle.lit_read.proofs.SpellLemmas.{all_joined, are_body_lines, statements_body, statements_open, any_writes, statements_wrote, or_right_false}
+use Rattle.lit_read.proofs.SpellLemmas.{all_joined, are_body_lines, statements_body, statements_open, line_writes, any_writes, statements_wrote, or_right_false}
 
 -- ---- the forms of a draft
 
@@ -128,7 +129,7 @@ no_end f (g ∷ h ∷ fs) none some = no_end g (h ∷ fs) (or_parts (is_test_lin
 abbrev pub names : List Agent → List (List ℕ)
 names agents = map (λ a. a.name) agents
 
-names_skip : (fs rest : List Form) → are_body_lines fs ≡ true → names_of (fs ++ rest) ≡ names_of rest
+pub names_skip : (fs rest : List Form) → are_body_lines fs ≡ true → names_of (fs ++ rest) ≡ names_of rest
 names_skip [] rest h = refl
 names_skip (StatementLine s ∷ fs) rest h = names_skip fs rest h
 names_skip (IfLine r q v ∷ fs) rest h = names_skip fs rest h
@@ -203,9 +204,8 @@ agents_added front own (c ∷ others) agent body a b =
 -- ---- what each draft says of its forms
 
 pub record Opened (given : List Form) (bytes : ℕ) (agents : List Agent) (agent : List ℕ) (ifs : List OpenIf) : Type 0 where
-  pub block : block_of given ≡ bytes
+  pub block : block_of given ≡ Some bytes
   pub named : names_of given ≡ names agents ++ agent ∷ []
-  pub sized : list_any is_block_line given ≡ true
   pub begun : is_begun given ≡ true
   pub unchecked : list_any is_check_line given ≡ false
   pub ends : ends_in_test given ≡ false
@@ -219,13 +219,21 @@ no_check : (front own : List Form) (agents : List Agent) (agent : List ℕ) (ifs
 no_check front own agents agent ifs body a b =
     list_any-append is_check_line front (AgentLine agent ∷ own) ∙ ap (λ (x : Bool). x || list_any is_check_line own) (any_agents is_check_line front agents other_check (λ n. refl) a) ∙ any_body is_check_line own other_check (open_body own ifs body b)
 
+names_open : (front own : List Form) (agents : List Agent) (agent : List ℕ) (ifs : List OpenIf) (body : Statements) → AreAgents front agents → AreOpen own ifs body → names_of (front ++ AgentLine agent ∷ own) ≡ names agents ++ agent ∷ []
+names_open front own agents agent ifs body a b =
+    agents_names front (AgentLine agent ∷ own) agents a ∙ ap (λ (l : List (List ℕ)). names agents ++ agent ∷ l) (ap names_of (sym (append-nil own)) ∙ names_skip own [] (open_body own ifs body b))
+
+some_last : (xs : List (List ℕ)) (x : List ℕ) → is_empty (xs ++ x ∷ []) ≡ false
+some_last [] x = refl
+some_last (y ∷ ys) x = refl
+
 opened_is : (name : List ℕ) (bytes : ℕ) (front own : List Form) (agents : List Agent) (agent : List ℕ) (ifs : List OpenIf) (body : Statements) → AreAgents front agents → AreOpen own ifs body
     → Opened (opening name bytes front agent own) bytes agents agent ifs
 opened_is name bytes front own agents agent ifs body a b = record {
   block = refl;
-  named = agents_names front (AgentLine agent ∷ own) agents a ∙ ap (λ (l : List (List ℕ)). names agents ++ agent ∷ l) (ap names_of (sym (append-nil own)) ∙ names_skip own [] (open_body own ifs body b));
-  sized = refl;
-  begun = ap (λ (x : Bool). x && not (list_any is_check_line (front ++ AgentLine agent ∷ own))) (list_any-append is_agent_line front (AgentLine agent ∷ own) ∙ or_true (list_any is_agent_line front)) ∙ ap not (no_check front own agents agent ifs body a b);
+  named = names_open front own agents agent ifs body a b;
+  begun = ap (λ (l : List (List ℕ)). not (is_empty l) && not (list_any is_check_line (front ++ AgentLine agent ∷ own))) (names_open front own agents agent ifs body a b)
+      ∙ ap (λ (x : Bool). not x && not (list_any is_check_line (front ++ AgentLine agent ∷ own))) (some_last (names agents) agent) ∙ ap not (no_check front own agents agent ifs body a b);
   unchecked = no_check front own agents agent ifs body a b;
   ends = no_end (TestLine name) (BytesLine bytes ∷ (front ++ AgentLine agent ∷ own))
       (list_any-append is_test_line front (AgentLine agent ∷ own) ∙ ap (λ (x : Bool). x || list_any is_test_line own) (any_agents is_test_line front agents other_test (λ n. refl) a) ∙ any_body is_test_line own other_test (open_body own ifs body b)) (omega arith);
@@ -246,7 +254,7 @@ ends_checked given t h =
 -- ---- where a form can stand
 
 abbrev pub is_in_then_part : List OpenIf → Bool
-is_in_then_part ifs = is_in_then (flags ifs)
+is_in_then_part ifs = begins_with not (flags ifs)
 
 abbrev pub has_none : List OpenIf → Bool
 has_none ifs = is_empty (flags ifs)
@@ -263,13 +271,6 @@ can_follow (Open m b agents agent ifs body) ElseLine = is_in_then_part ifs
 can_follow (Open m b agents agent ifs body) EndLine = not (has_none ifs)
 can_follow (Open m b agents agent ifs body) (CheckLine w) = has_none ifs
 can_follow _ _ = false
-
-not_empty : (fs : List Form) → not (eqb (suc (length fs)) 0) ≡ true
-not_empty fs = by (eqb (suc (length fs)) 0) refl
-  where
-    by : (b : Bool) → eqb (suc (length fs)) 0 ≡ b → not b ≡ true
-    by true e = let zero_is : suc (length fs) ≡ 0 = eqb-true _ _ e in absurd (omega arith)
-    by false e = refl
 
 placed_empty : (f : Form) → is_misplaced [] f ≡ not (can_follow Empty f)
 placed_empty Blank = refl
@@ -311,9 +312,9 @@ not_not false = refl
 placed_open : (given : List Form) (m : List ℕ) (b : ℕ) (agents : List Agent) (agent : List ℕ) (ifs : List OpenIf) (body : Statements) (f : Form) → Holds given (Open m b agents agent ifs body)
     → is_misplaced given f ≡ not (can_follow (Open m b agents agent ifs body) f)
 placed_open given m b agents agent ifs body Blank h = refl
-placed_open given m b agents agent ifs body (TestLine n) h = rw h.2 (not_empty (BytesLine b ∷ (h.0 ++ AgentLine agent ∷ h.1)))
+placed_open given m b agents agent ifs body (TestLine n) h = rw h.2 refl
 placed_open given m b agents agent ifs body (BytesLine c) h = let o = opened given m b agents agent ifs body h in rw o.ends refl
-placed_open given m b agents agent ifs body (AgentLine n) h = let o = opened given m b agents agent ifs body h in rw (o.sized, o.unchecked, o.opens) refl
+placed_open given m b agents agent ifs body (AgentLine n) h = let o = opened given m b agents agent ifs body h in rw (o.block, o.unchecked, o.opens) refl
 placed_open given m b agents agent ifs body (StatementLine r) h = let o = opened given m b agents agent ifs body h in rw o.begun refl
 placed_open given m b agents agent ifs body (IfLine r q v) h = let o = opened given m b agents agent ifs body h in rw o.begun refl
 placed_open given m b agents agent ifs body ElseLine h = let o = opened given m b agents agent ifs body h in rw (o.begun, o.opens) refl
@@ -325,7 +326,7 @@ ended_begun true = refl
 ended_begun false = refl
 
 not_begun : (given : List Form) (t : Litmus) → AreFormsOf given t → is_begun given ≡ false
-not_begun given t h = ap (λ (x : Bool). list_any is_agent_line given && not x) (checked_is given t h) ∙ ended_begun (list_any is_agent_line given)
+not_begun given t h = ap (λ (x : Bool). not (is_empty (names_of given)) && not x) (checked_is given t h) ∙ ended_begun (not (is_empty (names_of given)))
 
 or_middle : (x y z : Bool) → y ≡ true → (x || y || z) ≡ true
 or_middle true y z e = refl
@@ -334,9 +335,9 @@ or_middle false false z e = absurd cc
 
 placed_whole : (given : List Form) (t : Litmus) (f : Form) → AreFormsOf given t → is_misplaced given f ≡ not (can_follow (Whole t) f)
 placed_whole given t Blank h = refl
-placed_whole given t (TestLine n) h = rw h.parts (not_empty (BytesLine t.bytes ∷ (h.agents ++ CheckLine h.check ∷ [])))
+placed_whole given t (TestLine n) h = rw h.parts refl
 placed_whole given t (BytesLine c) h = rw (ends_checked given t h) refl
-placed_whole given t (AgentLine n) h = or_middle (not (list_any is_block_line given)) (list_any is_check_line given) (not (is_empty (open_ifs given))) (checked_is given t h)
+placed_whole given t (AgentLine n) h = or_middle (is_none (block_of given)) (list_any is_check_line given) (not (is_empty (open_ifs given))) (checked_is given t h)
 placed_whole given t (StatementLine r) h = rw (not_begun given t h) refl
 placed_whole given t (IfLine r q v) h = rw (not_begun given t h) refl
 placed_whole given t ElseLine h = rw (not_begun given t h) refl

@@ -93,7 +93,7 @@ last_is_new (a ∷ others) agent body h =
 -- ---- accesses
 
 pub in_block_small : (bytes : ℕ) (w : Window) (index : ℕ) → is_in_block bytes w index ≡ true → index ≤ bytes
-in_block_small bytes Uint8 index e = let h : index < bytes = ltb-true _ _ e in omega arith
+in_block_small bytes Uint8 index e = let h : index < bytes / 1 = ltb-true _ _ e in omega arith
 in_block_small bytes Uint16 index e = let h : index < bytes / 2 = ltb-true _ _ e in omega arith
 in_block_small bytes Uint32 index e = let h : index < bytes / 4 = ltb-true _ _ e in omega arith
 in_block_small bytes DataView8 index e = let h : index + 1 ≤ bytes = leb-true _ _ e in omega arith

@@ -1,11 +1,12 @@
 -- The computed form is the one that the tokens spell, and it is computed wherever they spell one but a check line.
 use Rattle.std.proofs.Common.{◌≡◌, ℕ, ◌+◌, Bool, true, false, cond, true≢false, List, [], ◌∷◌, Option, Some, None, refl, ap, sym, subst, ◌∙◌, ◌⊎◌, inl, inr}
 use Rattle.std.specs.Prelude.{codes}
-use Rattle.lit_syntax.specs.declared.symbol.Symbol.TheVariants.{Gives}
+use Rattle.lit_syntax.specs.declared.symbol.Symbol.TheVariants.{Gives, OpenBracket, CloseBracket}
 use Rattle.lit_syntax.specs.Syntax.{Window, Uint8, Uint16, Uint32, DataView8, DataView16, DataView32, is_data_view, Load, Store, Exchange, CompareExchange, If}
-use Rattle.lit_syntax.specs.Tokens.{Token, Word, Sign}
+use Rattle.lit_syntax.specs.Tokens.{Token, Word, Number, Sign}
 use Rattle.lit_syntax.specs.Written.{Written}
-use Rattle.lit_syntax.specs.Forms.{Form, Blank, TestLine, BytesLine, AgentLine, StatementLine, IfLine, ElseLine, EndLine, CheckLine, read_tokens, store_tokens, element_tokens, spelled, IsForm, IsSpelling}
+use Rattle.lit_syntax.specs.Forms.{Form, Blank, TestLine, BytesLine, AgentLine, StatementLine, IfLine, ElseLine, EndLine, CheckLine, read_tokens, store_tokens, window_word, spelled, IsForm}
+use Rattle.lit_read.specs.Internal.Marks.{IsSpelling}
 use Rattle.lit_read.specs.Faults.{is_check_line}
 use Rattle.lit_read.specs.Internal.FirstToken.{or_else}
 use Rattle.lit_read.specs.Internal.FormOfTokens.{after_sign, word_of, number_of, after_word, register_of, register_number, view_of, window_named, relation_of, ended, Item, front, ToldParts, in_parts}
@@ -19,7 +20,7 @@ use Rattle.lit_read.proofs.RowLemmas.{parts_row, PartsFit, in_parts_is, register
 
 -- ---- a form that is computed is spelled
 
-read_typed : (w : Window) (index : ℕ) → is_data_view w ≡ false → read_tokens w index ≡ element_tokens w index
+read_typed : (w : Window) (index : ℕ) → is_data_view w ≡ false → read_tokens w index ≡ Word (window_word w) ∷ Sign OpenBracket ∷ Number index ∷ Sign CloseBracket ∷ []
 read_typed Uint8 index typed = refl
 read_typed Uint16 index typed = refl
 read_typed Uint32 index typed = refl

@@ -9,13 +9,13 @@ use Rattle.lit_read.specs.declared.fault.ReadKind.TheVariants.{TooLong, NotAscii
 use Rattle.lit_syntax.specs.declared.limits.TheConstants.{TEXT_LIMIT}
 use Rattle.lit_syntax.specs.Syntax.{Litmus, IsLitmus}
 use Rattle.lit_read.specs.Lines.{lines_of}
-use Rattle.lit_syntax.specs.Tokens.{Token, CutsInto, is_comment}
-use Rattle.lit_syntax.specs.Forms.{Form, IsSpelling, without_blanks}
+use Rattle.lit_syntax.specs.Tokens.{Token, CutsInto}
+use Rattle.lit_syntax.specs.Forms.{Form, without_blanks}
 use Rattle.lit_read.specs.Faults.{number_of, is_allowed, HasFault, IsFirstFault}
 use Rattle.lit_read.specs.Spelling.{AreFormsOf, Spells}
-use Rattle.lit_read.specs.Internal.FirstToken.{token_front, after_blanks}
+use Rattle.lit_read.specs.Internal.FirstToken.{token_front, after_blanks, is_comment}
 use Rattle.lit_read.specs.Internal.FormOfTokens.{after_word, fixed_form}
-use Rattle.lit_read.specs.Internal.Marks.{Mark, mark_tokens, mark_of, follow, SpellsMarks, SpellsNoCondition}
+use Rattle.lit_read.specs.Internal.Marks.{Mark, mark_tokens, mark_of, follow, SpellsMarks, SpellsNoCondition, IsSpelling}
 use Rattle.lit_read.specs.Internal.State.{State, Empty, Named, Sized, Open, Whole, step, IsState}
 use Rattle.lit_read.specs.Internal.LineSteps.{IsLine, IsNoLine}
 use Rattle.lit_read.proofs.LineLemmas.{behind, lines_split}

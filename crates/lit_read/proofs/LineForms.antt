@@ -3,9 +3,9 @@ use Rattle.std.proofs.Common.{◌≡◌, List, ◌∷◌, Option, Some, None, re
 use Rattle.std.specs.Prelude.{codes, IfOk, IfNone}
 use Rattle.lit_syntax.specs.Tokens.{Token, Word}
 use Rattle.lit_syntax.specs.Written.{Written, written_tokens}
-use Rattle.lit_syntax.specs.Forms.{CheckLine, spelled, IsForm, IsSpelling}
+use Rattle.lit_syntax.specs.Forms.{CheckLine, spelled, IsForm}
 use Rattle.lit_read.specs.Internal.FormOfTokens.{after_word, word_of, fixed_form}
-use Rattle.lit_read.specs.Internal.Marks.{Mark, written_marks, SpellsMarks, SpellsNoCondition, SpellsForm, SpellsNoCheck, SpellsNothing}
+use Rattle.lit_read.specs.Internal.Marks.{Mark, written_marks, SpellsMarks, SpellsNoCondition, SpellsForm, SpellsNoCheck, SpellsNothing, IsSpelling}
 use Rattle.lit_syntax.proofs.ListLemmas.{tail_is}
 use Rattle.lit_read.proofs.RowLemmas.{after_word_is}
 use Rattle.lit_read.proofs.FormLemmas.{fixed_form_absent}

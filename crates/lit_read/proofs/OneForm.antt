@@ -4,8 +4,9 @@ use Rattle.std.proofs.lemmas.List.{append-nil}
 use Rattle.lit_syntax.specs.declared.symbol.Symbol.{Symbol}
 use Rattle.lit_syntax.specs.declared.symbol.Symbol.TheVariants.{Same, Differs, And, Or, CloseParen, Dot}
 use Rattle.lit_syntax.specs.Tokens.{Token, Word, Number, Sign}
-use Rattle.lit_syntax.specs.Written.{Comparison, Operand, Compared, Negated, Grouped, Conjunction, Lone, Both, Written, Single, Either, register_word, comparison_tokens, operand_tokens, conjunction_tokens, written_tokens}
-use Rattle.lit_syntax.specs.Forms.{Form, CheckLine, spelled, IsSpelling}
+use Rattle.lit_syntax.specs.Written.{Comparison, Operand, Compared, Negated, Grouped, Conjunction, Lone, Both, Written, Single, Either, register_word, operand_tokens, conjunction_tokens, written_tokens}
+use Rattle.lit_syntax.specs.Forms.{Form, CheckLine, spelled}
+use Rattle.lit_read.specs.Internal.Marks.{IsSpelling, comparison_tokens}
 use Rattle.lit_read.specs.Faults.{is_check_line}
 use Rattle.lit_read.specs.Internal.FormOfTokens.{fixed_form}
 use Rattle.lit_syntax.proofs.ListLemmas.{tail_is}

@@ -7,12 +7,13 @@ use Rattle.std.proofs.lemmas.Bool.{and_parts}
 use Rattle.std.proofs.lemmas.List.Sums.{fold-append}
 use Rattle.std.proofs.lemmas.List.Folds.{list_any-append}
 use Rattle.lit_syntax.specs.Syntax.{Statement, Statements, Load, Store, Exchange, CompareExchange, If, End, Then}
+use Rattle.lit_syntax.specs.Tokens.{begins_with}
 use Rattle.lit_syntax.specs.Forms.{Form, Blank, TestLine, BytesLine, AgentLine, StatementLine, IfLine, ElseLine, EndLine, CheckLine, IsForm}
-use Rattle.lit_read.specs.Structure.{is_body_line, IsStatement, AreStatements, AreElse, IsOpenPart, LeaveOpen}
-use Rattle.lit_read.specs.Faults.{is_agent_line, is_check_line, is_begun, open_behind, open_ifs, is_in_then, is_empty, is_misplaced, none_misplaced}
+use Rattle.lit_read.specs.Structure.{is_body_line, IsStatement, AreStatements, IsOpenPart, LeaveOpen}
+use Rattle.lit_read.specs.Faults.{is_check_line, names_of, is_begun, open_behind, open_ifs, is_empty, is_misplaced, none_misplaced}
 use Rattle.lit_read.specs.Internal.State.{followed_by}
-use Rattle.lit_read.proofs.SpellLemmas.{are_body_lines, statement_open, statements_open, statements_added, or_right_false}
-use Rattle.lit_read.proofs.DraftForms.{IsOther, other_check, not_not}
+use Rattle.lit_read.proofs.SpellLemmas.{AreElse, else_lines, are_body_lines, statement_open, statements_open, statements_added, or_right_false}
+use Rattle.lit_read.proofs.DraftForms.{IsOther, other_check, names_skip, not_not}
 use Rattle.lit_read.proofs.StepHolds.{access_line, if_lines}
 use Rattle.lit_read.proofs.TestForms.{new_open_if}
 
@@ -21,7 +22,7 @@ use Rattle.lit_read.proofs.TestForms.{new_open_if}
 abbrev fits : List Bool → Form → Bool
 fits o (StatementLine s) = true
 fits o (IfLine r q v) = true
-fits o ElseLine = is_in_then o
+fits o ElseLine = begins_with not o
 fits o EndLine = not (is_empty o)
 fits o _ = false
 
@@ -53,7 +54,7 @@ fit_joined o (x ∷ xs) ys a b = let c = and_parts (fits o x) (all_fit (open_beh
 placed_is : (given : List Form) (f : Form) → is_begun given ≡ true → is_body_line f ≡ true → not (is_misplaced given f) ≡ fits (open_ifs given) f
 placed_is given (StatementLine s) begun body = rw begun refl
 placed_is given (IfLine r q v) begun body = rw begun refl
-placed_is given ElseLine begun body = rw begun (sym (not_not (is_in_then (open_ifs given))))
+placed_is given ElseLine begun body = rw begun (sym (not_not (begins_with not (open_ifs given))))
 placed_is given EndLine begun body = rw begun refl
 placed_is given Blank begun body = absurd cc
 placed_is given (TestLine n) begun body = absurd cc
@@ -61,22 +62,23 @@ placed_is given (BytesLine b) begun body = absurd cc
 placed_is given (AgentLine n) begun body = absurd cc
 placed_is given (CheckLine w) begun body = absurd cc
 
-other_agent : IsOther is_agent_line
-other_agent (StatementLine s) e = refl
-other_agent (IfLine r q v) e = refl
-other_agent ElseLine e = refl
-other_agent EndLine e = refl
-other_agent Blank e = refl
-other_agent (TestLine n) e = refl
-other_agent (BytesLine b) e = refl
-other_agent (AgentLine n) e = absurd cc
-other_agent (CheckLine w) e = refl
+names_on : (given : List Form) (f : Form) → is_body_line f ≡ true → names_of (given ++ f ∷ []) ≡ names_of given
+names_on [] f body = names_skip (f ∷ []) [] (rw body refl)
+names_on (AgentLine n ∷ fs) f body = ap (λ (l : List (List ℕ)). n ∷ l) (names_on fs f body)
+names_on (Blank ∷ fs) f body = names_on fs f body
+names_on (TestLine n ∷ fs) f body = names_on fs f body
+names_on (BytesLine b ∷ fs) f body = names_on fs f body
+names_on (StatementLine s ∷ fs) f body = names_on fs f body
+names_on (IfLine r q v ∷ fs) f body = names_on fs f body
+names_on (ElseLine ∷ fs) f body = names_on fs f body
+names_on (EndLine ∷ fs) f body = names_on fs f body
+names_on (CheckLine w ∷ fs) f body = names_on fs f body
 
 any_more : (p : Form → Bool) (given : List Form) (f : Form) → IsOther p → is_body_line f ≡ true → list_any p (given ++ f ∷ []) ≡ list_any p given
 any_more p given f other body = list_any-append p given (f ∷ []) ∙ ap (λ (b : Bool). list_any p given || (b || false)) (other f body) ∙ or_right_false (list_any p given)
 
 begun_on : (given : List Form) (f : Form) → is_begun given ≡ true → is_body_line f ≡ true → is_begun (given ++ f ∷ []) ≡ true
-begun_on given f begun body = rw (any_more is_agent_line given f other_agent body, any_more is_check_line given f other_check body) begun
+begun_on given f begun body = rw (names_on given f body, any_more is_check_line given f other_check body) begun
 
 all_placed : (given fs : List Form) → is_begun given ≡ true → are_body_lines fs ≡ true → none_misplaced given fs ≡ all_fit (open_ifs given) fs
 all_placed given [] begun body = refl
@@ -94,7 +96,7 @@ mutual
   statement_fit fs (Exchange r w i v) o h = ap (all_fit o) h
   statement_fit fs (CompareExchange r w i e v) o h = ap (all_fit o) h
   statement_fit fs (If r e v body other) o h =
-      ap (all_fit o) h.2 ∙ fit_joined (false ∷ o) h.0 (h.1 ++ EndLine ∷ []) (statements_fit h.0 body (false ∷ o) h.3) (rw (statements_open h.0 body (false ∷ o) h.3) (else_fit h.1 other o h.4))
+      ap (all_fit o) h.2 ∙ fit_joined (false ∷ o) h.0 (h.1 ++ EndLine ∷ []) (statements_fit h.0 body (false ∷ o) h.3) (rw (statements_open h.0 body (false ∷ o) h.3) (else_fit h.1 other o (else_lines h.1 other h.4)))
 
   statements_fit : (fs : List Form) (ss : Statements) (o : List Bool) → AreStatements fs ss → all_fit o fs ≡ true
   statements_fit fs End o h = ap (all_fit o) h

@@ -7,7 +7,8 @@ use Rattle.lit_syntax.specs.declared.symbol.Symbol.TheVariants.{Not as Bang}
 use Rattle.lit_syntax.specs.Tokens.{Token, Sign}
 use Rattle.lit_syntax.specs.Syntax.{End, Condition, Conditions, Any, All, Not, Is, NoMore, Also, Litmus, IsConditionOn, AreConditionsOn, IsLitmus}
 use Rattle.lit_syntax.specs.Forms.{Form}
-use Rattle.lit_syntax.specs.Written.{Comparison, comparison_tokens, Operand, Compared, Negated, Grouped, Conjunction, Lone, Both, Written, Single, Either, operand_tokens, conjunction_tokens, written_tokens}
+use Rattle.lit_syntax.specs.Written.{Comparison, Operand, Compared, Negated, Grouped, Conjunction, Lone, Both, Written, Single, Either, operand_tokens, conjunction_tokens, written_tokens}
+use Rattle.lit_read.specs.Internal.Marks.{comparison_tokens}
 use Rattle.lit_read.specs.Spelling.{operand_value, conjunction_value, written_value, operand_values, conjunction_values, AreFormsOf}
 use Rattle.lit_syntax.specs.Parentheses.{named, is_parenthesis, without_parentheses}
 use Rattle.lit_read.proofs.CheckAsks.{named_there}

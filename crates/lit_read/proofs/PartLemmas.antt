@@ -8,12 +8,13 @@ use Rattle.lit_syntax.specs.declared.limits.TheConstants.{REGISTERS, COMPARED_LI
 use Rattle.lit_syntax.specs.Syntax.{fits_window, Statement, Load, Store, Exchange, CompareExchange, If, Statements, End, Then, Agent, Litmus, writes, nesting, statement_nesting, IsStatementIn, AreStatementsIn, IsConditionOn, AreConditionsOn, IsLitmus}
 use Rattle.lit_syntax.specs.Tokens.{IsWord}
 use Rattle.lit_syntax.specs.Written.{Comparison, Operand, Compared, Negated, Grouped, Conjunction, Lone, Both, Written, Single, Either, operand_depths, conjunction_depths, written_depths, is_shallow}
-use Rattle.lit_syntax.specs.Forms.{IsAccess}
-use Rattle.lit_read.specs.Faults.{has_fitting_literals, stays_in_block, has_small_numbers}
-use Rattle.lit_read.specs.Spelling.{place_of, numbered, operand_value, conjunction_value, written_value, operand_values, conjunction_values}
+use Rattle.lit_syntax.specs.Forms.{StatementLine, IsForm}
+use Rattle.lit_read.specs.Internal.Built.{numbered}
+use Rattle.lit_read.specs.Faults.{stays_in_block}
+use Rattle.lit_read.specs.Spelling.{place_of, operand_value, conjunction_value, written_value, operand_values, conjunction_values}
 use Rattle.lit_syntax.proofs.ListLemmas.{all_parts}
 use Rattle.lit_read.proofs.DepthLemmas.{operands_count, conjunctions_count, stays_shallow}
-use Rattle.lit_read.specs.Internal.State.{followed_by, body_named, is_known, are_known, AreDistinct, IsPart, AreAgentsIn}
+use Rattle.lit_read.specs.Internal.State.{followed_by, body_named, is_known, are_known, AreDistinct, IsPart, AreAgentsIn, has_fitting_literals, has_small_numbers}
 
 -- ---- lists
 
@@ -73,7 +74,8 @@ part_followed bytes outside body s part one few =
     let all : nesting (followed_by body s) ≤ IF_LIMIT - outside = nested_by body s (IF_LIMIT - outside) most own in
     (followed_in bytes body s part.0 one, omega (arith, few, all))
 
-pub statement_in : (bytes : ℕ) (s : Statement) → IsAccess s → has_fitting_literals s ≡ true → stays_in_block bytes s ≡ true → IsStatementIn bytes s × (statement_nesting s ≡ 0)
+pub statement_in : (bytes : ℕ) (s : Statement) → IsForm (StatementLine s) → has_fitting_literals s ≡ true → stays_in_block bytes s ≡ true → IsStatementIn bytes s × (statement_nesting s ≡ 0)
+unfolding IsForm
 statement_in bytes (Load reg window index atomic) is fits within = ((is.0, within, is.1), refl)
 statement_in bytes (Store window index value atomic) is fits within = ((within, fits, is), refl)
 statement_in bytes (Exchange reg window index value) is fits within = ((is.0, within, fits, is.1), refl)

@@ -1,12 +1,13 @@
 -- A text line by line: what is read is spelled, and what is refused is its first fault.
-use Rattle.std.proofs.Common.{◌≡◌, ◌≢◌, ℕ, ◌-◌, ◌<◌, true, false, IsTrue, List, [], ◌∷◌, ◌++◌, length, get_or, refl, sym, ap, subst, ◌∙◌, true≢false}
+use Rattle.std.proofs.Common.{◌≡◌, ◌≢◌, ℕ, ◌-◌, ◌<◌, ◌≤◌, true, false, IsTrue, List, [], ◌∷◌, ◌++◌, length, take, get_or, refl, sym, ap, subst, ◌∙◌, true≢false}
 use Rattle.std.specs.Prelude.{codes}
 use Rattle.std.specs.List.{list_any}
+use Rattle.lit_read.specs.Internal.Marks.{IsSpelling}
 use Rattle.lit_read.specs.declared.fault.ReadKind.{ReadKind}
 use Rattle.lit_read.specs.declared.fault.ReadKind.TheVariants.{TooLong, NotAscii, Syntax, Misplaced, BlockSize, TooManyAgents, DuplicateAgent, LiteralRange, OutOfBlock, UnknownName, TooDeep, MissingPart, OutOfMemory}
 use Rattle.lit_syntax.specs.Tokens.{Token, Word, CutsInto, IsWord}
-use Rattle.lit_syntax.specs.Forms.{Form, Blank, TestLine, BytesLine, AgentLine, StatementLine, IfLine, ElseLine, EndLine, CheckLine, spelled, IsSpelling, HasForm, HaveForms, without_blanks}
-use Rattle.lit_read.specs.Faults.{is_check_line, is_faulty, HasLineFault, AreFormsBefore, HasFault}
+use Rattle.lit_syntax.specs.Forms.{Form, Blank, TestLine, BytesLine, AgentLine, StatementLine, IfLine, ElseLine, EndLine, CheckLine, spelled, HasForm, HaveForms, without_blanks}
+use Rattle.lit_read.specs.Faults.{is_check_line, is_faulty, HasLineFault, HasFault}
 use Rattle.lit_read.specs.Lines.{lines_of}
 use Rattle.lit_syntax.specs.declared.limits.TheConstants.{TEXT_LIMIT}
 use Rattle.lit_read.specs.Internal.LineSteps.{IsLine}
@@ -31,7 +32,7 @@ no_cut line none f has = none has.tokens has.cut
 -- the names that a line has are words
 second_word : (line w name : List ℕ) → CutsInto line (Word w ∷ Word name ∷ []) → IsWord name
 unfolding CutsInto
-second_word line w name h = h.2.1.spelled.0
+second_word line w name h = h.7.5.0
 
 pub has_words : (line : List ℕ) (f : Form) → HasForm line f → HasWords f
 unfolding spelled
@@ -149,6 +150,10 @@ made_fault OutOfMemory before line f is h = (f, is.has, h)
 
 -- ---- the faults of a text
 
+-- the lines with lesser numbers have these forms
+abbrev pub AreFormsBefore : List ℕ → ℕ → List Form → Type 0
+AreFormsBefore text line before = (1 ≤ line) × (line ≤ length (lines_of text)) × HaveForms (take (line - 1) (lines_of text)) before
+
 -- a fault of one line, which its number is that of
 pub record LineFault (text : List ℕ) (k : ReadKind) (n : ℕ) : Type 0 where
   pub before : List Form
@@ -166,16 +171,16 @@ unfolding HasFault
 which text TooLong n h = Long h.0 h.1
 which text MissingPart n h = Ended refl h.0 h.1.0 h.1.1 h.1.2
 which text OutOfMemory n h = absurd h
-which text NotAscii n h = Line (λ e. absurd cc) (record { before = h.0; above = h.1; fault = h.2 })
-which text Syntax n h = Line (λ e. absurd cc) (record { before = h.0; above = h.1; fault = h.2 })
-which text Misplaced n h = Line (λ e. absurd cc) (record { before = h.0; above = h.1; fault = h.2 })
-which text BlockSize n h = Line (λ e. absurd cc) (record { before = h.0; above = h.1; fault = h.2 })
-which text TooManyAgents n h = Line (λ e. absurd cc) (record { before = h.0; above = h.1; fault = h.2 })
-which text DuplicateAgent n h = Line (λ e. absurd cc) (record { before = h.0; above = h.1; fault = h.2 })
-which text LiteralRange n h = Line (λ e. absurd cc) (record { before = h.0; above = h.1; fault = h.2 })
-which text OutOfBlock n h = Line (λ e. absurd cc) (record { before = h.0; above = h.1; fault = h.2 })
-which text UnknownName n h = Line (λ e. absurd cc) (record { before = h.0; above = h.1; fault = h.2 })
-which text TooDeep n h = Line (λ e. absurd cc) (record { before = h.0; above = h.1; fault = h.2 })
+which text NotAscii n h = Line (λ e. absurd cc) (record { before = h.0; above = (h.1, h.2, h.3); fault = h.4 })
+which text Syntax n h = Line (λ e. absurd cc) (record { before = h.0; above = (h.1, h.2, h.3); fault = h.4 })
+which text Misplaced n h = Line (λ e. absurd cc) (record { before = h.0; above = (h.1, h.2, h.3); fault = h.4 })
+which text BlockSize n h = Line (λ e. absurd cc) (record { before = h.0; above = (h.1, h.2, h.3); fault = h.4 })
+which text TooManyAgents n h = Line (λ e. absurd cc) (record { before = h.0; above = (h.1, h.2, h.3); fault = h.4 })
+which text DuplicateAgent n h = Line (λ e. absurd cc) (record { before = h.0; above = (h.1, h.2, h.3); fault = h.4 })
+which text LiteralRange n h = Line (λ e. absurd cc) (record { before = h.0; above = (h.1, h.2, h.3); fault = h.4 })
+which text OutOfBlock n h = Line (λ e. absurd cc) (record { before = h.0; above = (h.1, h.2, h.3); fault = h.4 })
+which text UnknownName n h = Line (λ e. absurd cc) (record { before = h.0; above = (h.1, h.2, h.3); fault = h.4 })
+which text TooDeep n h = Line (λ e. absurd cc) (record { before = h.0; above = (h.1, h.2, h.3); fault = h.4 })
 
 -- a fault that a line with a form can have
 abbrev pub IsOfLine : ReadKind → Type 0
@@ -186,13 +191,13 @@ unfolding HasFault
 line_is_fault text TooLong n of h = absurd (of.0 refl)
 line_is_fault text MissingPart n of h = absurd (of.1 refl)
 line_is_fault text OutOfMemory n of h = absurd (of.2 refl)
-line_is_fault text NotAscii n of h = (h.before, h.above, h.fault)
-line_is_fault text Syntax n of h = (h.before, h.above, h.fault)
-line_is_fault text Misplaced n of h = (h.before, h.above, h.fault)
-line_is_fault text BlockSize n of h = (h.before, h.above, h.fault)
-line_is_fault text TooManyAgents n of h = (h.before, h.above, h.fault)
-line_is_fault text DuplicateAgent n of h = (h.before, h.above, h.fault)
-line_is_fault text LiteralRange n of h = (h.before, h.above, h.fault)
-line_is_fault text OutOfBlock n of h = (h.before, h.above, h.fault)
-line_is_fault text UnknownName n of h = (h.before, h.above, h.fault)
-line_is_fault text TooDeep n of h = (h.before, h.above, h.fault)
+line_is_fault text NotAscii n of h = (h.before, h.above.0, h.above.1, h.above.2, h.fault)
+line_is_fault text Syntax n of h = (h.before, h.above.0, h.above.1, h.above.2, h.fault)
+line_is_fault text Misplaced n of h = (h.before, h.above.0, h.above.1, h.above.2, h.fault)
+line_is_fault text BlockSize n of h = (h.before, h.above.0, h.above.1, h.above.2, h.fault)
+line_is_fault text TooManyAgents n of h = (h.before, h.above.0, h.above.1, h.above.2, h.fault)
+line_is_fault text DuplicateAgent n of h = (h.before, h.above.0, h.above.1, h.above.2, h.fault)
+line_is_fault text LiteralRange n of h = (h.before, h.above.0, h.above.1, h.above.2, h.fault)
+line_is_fault text OutOfBlock n of h = (h.before, h.above.0, h.above.1, h.above.2, h.fault)
+line_is_fault text UnknownName n of h = (h.before, h.above.0, h.above.1, h.above.2, h.fault)
+line_is_fault text TooDeep n of h = (h.before, h.above.0, h.above.1, h.above.2, h.fault)

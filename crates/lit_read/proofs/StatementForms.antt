@@ -5,10 +5,12 @@ use Rattle.std.proofs.lemmas.List.{append-nil, length-append, length-map}
 use Rattle.std.proofs.lemmas.List.Elements.{filter-append}
 use Rattle.std.proofs.lemmas.Option.{get_or_from_slice_get, slice_get-get_or}
 use Rattle.lit_syntax.specs.Syntax.{Statement, Statements, Load, Store, Exchange, CompareExchange, If, End, Then, Agent, Litmus, agent_of}
+use Rattle.lit_read.specs.Internal.Marks.{IsSpelling}
 use Rattle.lit_read.specs.Lines.{lines_of}
 use Rattle.lit_syntax.specs.Tokens.{Token, CutsInto}
-use Rattle.lit_syntax.specs.Forms.{Form, Blank, TestLine, BytesLine, AgentLine, StatementLine, IfLine, ElseLine, EndLine, CheckLine, IsSpelling, HasForm, HaveForms, without_blanks}
-use Rattle.lit_read.specs.Structure.{IsStatement, AreStatements, AreElse, AreAgents}
+use Rattle.lit_syntax.specs.Forms.{Form, Blank, TestLine, BytesLine, AgentLine, StatementLine, IfLine, ElseLine, EndLine, CheckLine, HasForm, HaveForms, without_blanks}
+use Rattle.lit_read.specs.Structure.{IsStatement, AreStatements, AreAgents}
+use Rattle.lit_read.proofs.SpellLemmas.{AreElse, else_lines}
 use Rattle.lit_read.specs.Spelling.{AreFormsOf, Spells}
 use Rattle.lit_syntax.specs.StatementOrder.{statement_count, statement_begun, statements_begun, agents_count, agents_begun, forms_begun, statements_before}
 use Rattle.lit_read.specs.StatementLines.{begins_statement, BeginsStatement, ListsStatementLines, BeginsOnLine, line_of}
@@ -32,7 +34,7 @@ mutual
   statement_begins fs (CompareExchange r w i e v) h = ap begun h
   statement_begins fs (If r e v body other) h =
       let end : begun (h.1 ++ EndLine ∷ []) ≡ statements_begun other =
-      two h.1 (EndLine ∷ []) (statements_begun other) [] (else_begins h.1 other h.4) refl ∙ append-nil (statements_begun other) in
+      two h.1 (EndLine ∷ []) (statements_begun other) [] (else_begins h.1 other (else_lines h.1 other h.4)) refl ∙ append-nil (statements_begun other) in
       ap begun h.2 ∙ ap (λ (l : List Form). IfLine r e v ∷ l) (two h.0 (h.1 ++ EndLine ∷ []) (statements_begun body) (statements_begun other) (statements_begin h.0 body h.3) end)
 
   statements_begin : (fs : List Form) (ss : Statements) → AreStatements fs ss → begun fs ≡ statements_begun ss

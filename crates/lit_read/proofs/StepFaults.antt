@@ -1,17 +1,19 @@
 -- A form that a draft takes has no fault, and one that it refuses has this fault and none with a lower number.
 use Rattle.std.proofs.Common.{◌≡◌, ℕ, suc, ◌+◌, ◌<◌, Bool, true, false, cond, not, eqb, ltb, leb, ◌||◌, List, [], ◌∷◌, ◌++◌, length, Option, Some, None, is_some, Result, Ok, Err, refl, ap, sym, ◌∙◌, arith}
 use Rattle.std.specs.List.{list_any, list_all}
+use Rattle.std.specs.Option.{unwrap_or}
 use Rattle.std.specs.Str.{bytes_eq}
 use Rattle.std.proofs.lemmas.List.{length-append}
 use Rattle.lit_read.specs.declared.fault.ReadKind.{ReadKind}
 use Rattle.lit_read.specs.declared.fault.ReadKind.TheVariants.{TooLong, NotAscii, Syntax, Misplaced, BlockSize, TooManyAgents, DuplicateAgent, LiteralRange, OutOfBlock, UnknownName, TooDeep, MissingPart, OutOfMemory}
 use Rattle.lit_syntax.specs.declared.limits.TheConstants.{BLOCK_LIMIT, AGENT_LIMIT, COMPARED_LIMIT, IF_LIMIT}
-use Rattle.lit_syntax.specs.Syntax.{Statement, Statements, End, Agent, writes}
+use Rattle.lit_syntax.specs.Syntax.{Statement, Statements, Load, Store, Exchange, CompareExchange, If, End, Agent, writes}
+use Rattle.lit_syntax.specs.Tokens.{begins_with}
 use Rattle.lit_syntax.specs.Written.{Comparison, Written, written_depths, is_shallow}
 use Rattle.lit_syntax.specs.Forms.{Form, Blank, TestLine, BytesLine, AgentLine, StatementLine, IfLine, ElseLine, EndLine, CheckLine}
-use Rattle.lit_read.specs.Faults.{number_of, block_of, names_of, open_ifs, agent_writes, is_misplaced, is_wrong_block, is_one_agent_more, is_known_agent, has_fitting_literals, has_small_numbers, has_large_literal, stays_in_block, leaves_block, has_unknown_name, is_too_deep, is_faulty, is_in_then}
+use Rattle.lit_read.specs.Faults.{number_of, block_of, names_of, open_ifs, agent_writes, is_misplaced, has_large_literal, stays_in_block, is_faulty}
 use Rattle.lit_read.specs.Spelling.{written_value}
-use Rattle.lit_read.specs.Internal.State.{State, Empty, Named, Sized, Open, Whole, OpenIf, followed_by, with_agent, body_named, is_known, are_known, else_from, test_step, block_step, next_step, agent_step, statement_step, if_step, else_step, end_step, test_of, whole, check_step, step}
+use Rattle.lit_read.specs.Internal.State.{State, Empty, Named, Sized, Open, Whole, OpenIf, followed_by, with_agent, body_named, is_known, are_known, has_fitting_literals, has_small_numbers, else_from, test_step, block_step, next_step, agent_step, statement_step, if_step, else_step, end_step, test_of, whole, check_step, step}
 use Rattle.lit_read.proofs.DraftForms.{Holds, names, any_named, opened, flags, placed, agents_added, agents_wrote}
 
 -- ---- the faults of a form
@@ -19,13 +21,13 @@ use Rattle.lit_read.proofs.DraftForms.{Holds, names, any_named, opened, flags, p
 -- no fault with a lesser number
 pub record Clear (n : ℕ) (given : List Form) (f : Form) : Type 0 where
   pub misplaced : 4 < n → is_misplaced given f ≡ false
-  pub block : 5 < n → is_wrong_block f ≡ false
-  pub more : 6 < n → is_one_agent_more given f ≡ false
-  pub known : 7 < n → is_known_agent given f ≡ false
-  pub literal : 8 < n → has_large_literal f ≡ false
-  pub outside : 9 < n → leaves_block given f ≡ false
-  pub unknown : 10 < n → has_unknown_name given f ≡ false
-  pub deep : 11 < n → is_too_deep given f ≡ false
+  pub block : 5 < n → is_faulty BlockSize given f ≡ false
+  pub more : 6 < n → is_faulty TooManyAgents given f ≡ false
+  pub known : 7 < n → is_faulty DuplicateAgent given f ≡ false
+  pub literal : 8 < n → is_faulty LiteralRange given f ≡ false
+  pub outside : 9 < n → is_faulty OutOfBlock given f ≡ false
+  pub unknown : 10 < n → is_faulty UnknownName given f ≡ false
+  pub deep : 11 < n → is_faulty TooDeep given f ≡ false
 
 pub below : (n : ℕ) (given : List Form) (f : Form) → Clear n given f → (j : ReadKind) → number_of j < n → is_faulty j given f ≡ false
 unfolding is_faulty
@@ -56,7 +58,7 @@ misplaced_is given f is = (
 )
 
 test_outcome : (s : State) (given : List Form) (name : List ℕ) → Holds given s → Outcome given (TestLine name) (test_step s name)
-unfolding test_step
+unfolding test_step is_faulty
 test_outcome Empty given name h = record { misplaced = λ _. placed Empty given (TestLine name) h; block = λ _. refl; more = λ _. refl; known = λ _. refl; literal = λ _. refl; outside = λ _. refl; unknown = λ _. refl; deep = λ _. refl }
 test_outcome (Named m) given name h = misplaced_is given (TestLine name) (placed (Named m) given (TestLine name) h)
 test_outcome (Sized m b) given name h = misplaced_is given (TestLine name) (placed (Sized m b) given (TestLine name) h)
@@ -75,7 +77,7 @@ block_outcome (Sized m b) given bytes h = misplaced_is given (BytesLine bytes) (
 block_outcome (Open m b agents agent ifs body) given bytes h = misplaced_is given (BytesLine bytes) (placed (Open m b agents agent ifs body) given (BytesLine bytes) h)
 block_outcome (Whole t) given bytes h = misplaced_is given (BytesLine bytes) (placed (Whole t) given (BytesLine bytes) h)
 
-full_is : (given : List Form) (agents : List Agent) (agent : List ℕ) (name : List ℕ) (x : Bool) → names_of given ≡ names agents ++ agent ∷ [] → leb AGENT_LIMIT (length agents + 1) ≡ x → is_one_agent_more given (AgentLine name) ≡ x
+full_is : (given : List Form) (agents : List Agent) (agent : List ℕ) (name : List ℕ) (x : Bool) → names_of given ≡ names agents ++ agent ∷ [] → leb AGENT_LIMIT (length agents + 1) ≡ x → leb AGENT_LIMIT (length (names_of given)) ≡ x
 full_is given agents agent name x are full =
     let len : length (names_of given) ≡ length agents + 1 = ap length are ∙ length-append (names agents) (agent ∷ []) ∙ ap (λ (n : ℕ). n + 1) (names_length agents) in
     ap (λ (n : ℕ). leb AGENT_LIMIT n) len ∙ full
@@ -89,7 +91,7 @@ names_last [] agent body = refl
 names_last (a ∷ others) agent body = ap (λ (l : List (List ℕ)). a.name ∷ l) (names_last others agent body)
 
 known_is : (given : List Form) (agents : List Agent) (agent : List ℕ) (body : Statements) (name : List ℕ) → names_of given ≡ names agents ++ agent ∷ []
-    → is_known_agent given (AgentLine name) ≡ list_any (λ a. bytes_eq name a.name) (with_agent agents agent body)
+    → list_any (λ n. bytes_eq name n) (names_of given) ≡ list_any (λ a. bytes_eq name a.name) (with_agent agents agent body)
 known_is given agents agent body name are = ap (list_any (λ n. bytes_eq name n)) (are ∙ sym (names_last agents agent body)) ∙ any_named name (with_agent agents agent body)
 
 next_outcome : (given : List Form) (m : List ℕ) (b : ℕ) (agents : List Agent) (agent : List ℕ) (body : Statements) (name : List ℕ) → names_of given ≡ names agents ++ agent ∷ [] → is_misplaced given (AgentLine name) ≡ false
@@ -105,7 +107,7 @@ next_outcome given m b agents agent body name are in_place =
     by false full false known = record { misplaced = λ _. in_place; block = λ _. refl; more = λ _. full_is given agents agent name false are full; known = λ _. known_is given agents agent body name are ∙ known; literal = λ _. refl; outside = λ _. refl; unknown = λ _. refl; deep = λ _. refl }
 
 agent_outcome : (s : State) (given : List Form) (name : List ℕ) → Holds given s → Outcome given (AgentLine name) (agent_step s name)
-unfolding agent_step
+unfolding agent_step is_faulty
 agent_outcome (Sized m b) given name h = record { misplaced = λ _. placed (Sized m b) given (AgentLine name) h; block = λ _. refl; more = λ _. ap (λ (l : List Form). leb AGENT_LIMIT (length (names_of l))) h; known = λ _. ap (λ (l : List Form). list_any (λ n. bytes_eq name n) (names_of l)) h; literal = λ _. refl; outside = λ _. refl; unknown = λ _. refl; deep = λ _. refl }
 agent_outcome (Open m b agents agent [] body) given name h = next_outcome given m b agents agent body name (opened given m b agents agent [] body h).named (placed (Open m b agents agent [] body) given (AgentLine name) h)
 agent_outcome (Open m b agents agent (l ∷ ifs) body) given name h = misplaced_is given (AgentLine name) (placed (Open m b agents agent (l ∷ ifs) body) given (AgentLine name) h)
@@ -113,16 +115,23 @@ agent_outcome Empty given name h = misplaced_is given (AgentLine name) (placed E
 agent_outcome (Named m) given name h = misplaced_is given (AgentLine name) (placed (Named m) given (AgentLine name) h)
 agent_outcome (Whole t) given name h = misplaced_is given (AgentLine name) (placed (Whole t) given (AgentLine name) h)
 
+large_is : (r : Statement) → has_large_literal (StatementLine r) ≡ not (has_fitting_literals r)
+large_is (Load reg w i a) = refl
+large_is (Store w i v a) = refl
+large_is (Exchange reg w i v) = refl
+large_is (CompareExchange reg w i e v) = refl
+large_is (If reg equal value body other) = refl
+
 statement_outcome : (s : State) (given : List Form) (r : Statement) → Holds given s → Outcome given (StatementLine r) (statement_step s r)
 unfolding statement_step is_faulty
 statement_outcome (Open m b agents agent ifs body) given r h =
-    by (has_fitting_literals r) refl (stays_in_block b r) refl (placed (Open m b agents agent ifs body) given (StatementLine r) h) (ap (λ (n : ℕ). stays_in_block n r) (opened given m b agents agent ifs body h).block)
+    by (has_fitting_literals r) refl (stays_in_block b r) refl (placed (Open m b agents agent ifs body) given (StatementLine r) h) (ap (λ (n : Option ℕ). stays_in_block (unwrap_or n 0) r) (opened given m b agents agent ifs body h).block)
   where
-    by : (x : Bool) → has_fitting_literals r ≡ x → (y : Bool) → stays_in_block b r ≡ y → is_misplaced given (StatementLine r) ≡ false → stays_in_block (block_of given) r ≡ stays_in_block b r
+    by : (x : Bool) → has_fitting_literals r ≡ x → (y : Bool) → stays_in_block b r ≡ y → is_misplaced given (StatementLine r) ≡ false → stays_in_block (unwrap_or (block_of given) 0) r ≡ stays_in_block b r
         → Outcome given (StatementLine r) (cond x (cond y (Ok (Open m b agents agent ifs (followed_by body r))) (Err OutOfBlock)) (Err LiteralRange))
-    by false fits y within in_place same = (record { misplaced = λ _. in_place; block = λ _. refl; more = λ _. refl; known = λ _. refl; literal = λ h. absurd (omega (arith, h)); outside = λ h. absurd (omega (arith, h)); unknown = λ _. refl; deep = λ _. refl }, ap not fits)
-    by true fits false within in_place same = (record { misplaced = λ _. in_place; block = λ _. refl; more = λ _. refl; known = λ _. refl; literal = λ _. ap not fits; outside = λ h. absurd (omega (arith, h)); unknown = λ _. refl; deep = λ _. refl }, ap not (same ∙ within))
-    by true fits true within in_place same = record { misplaced = λ _. in_place; block = λ _. refl; more = λ _. refl; known = λ _. refl; literal = λ _. ap not fits; outside = λ _. ap not (same ∙ within); unknown = λ _. refl; deep = λ _. refl }
+    by false fits y within in_place same = (record { misplaced = λ _. in_place; block = λ _. refl; more = λ _. refl; known = λ _. refl; literal = λ h. absurd (omega (arith, h)); outside = λ h. absurd (omega (arith, h)); unknown = λ _. refl; deep = λ _. refl }, large_is r ∙ ap not fits)
+    by true fits false within in_place same = (record { misplaced = λ _. in_place; block = λ _. refl; more = λ _. refl; known = λ _. refl; literal = λ _. large_is r ∙ ap not fits; outside = λ h. absurd (omega (arith, h)); unknown = λ _. refl; deep = λ _. refl }, ap not (same ∙ within))
+    by true fits true within in_place same = record { misplaced = λ _. in_place; block = λ _. refl; more = λ _. refl; known = λ _. refl; literal = λ _. large_is r ∙ ap not fits; outside = λ _. ap not (same ∙ within); unknown = λ _. refl; deep = λ _. refl }
 statement_outcome Empty given r h = misplaced_is given (StatementLine r) (placed Empty given (StatementLine r) h)
 statement_outcome (Named m) given r h = misplaced_is given (StatementLine r) (placed (Named m) given (StatementLine r) h)
 statement_outcome (Sized m b) given r h = misplaced_is given (StatementLine r) (placed (Sized m b) given (StatementLine r) h)
@@ -149,20 +158,20 @@ if_outcome (Sized m b) given reg equal value h = misplaced_is given (IfLine reg 
 if_outcome (Whole t) given reg equal value h = misplaced_is given (IfLine reg equal value) (placed (Whole t) given (IfLine reg equal value) h)
 
 else_outcome : (s : State) (given : List Form) → Holds given s → Outcome given ElseLine (else_step s)
-unfolding else_step
+unfolding else_step is_faulty
 else_outcome (Open m b agents agent [] body) given h = misplaced_is given ElseLine (placed (Open m b agents agent [] body) given ElseLine h)
 else_outcome (Open m b agents agent (l ∷ ifs) body) given h = by l.then_part refl (placed (Open m b agents agent (l ∷ ifs) body) given ElseLine h)
   where
-    by : (p : Option Statements) → l.then_part ≡ p → is_misplaced given ElseLine ≡ not (is_in_then (is_some l.then_part ∷ flags ifs)) → Outcome given ElseLine (else_from m b agents agent l ifs body p)
-    by (Some part) is in_place = misplaced_is given ElseLine (in_place ∙ ap (λ (o : Option Statements). not (is_in_then (is_some o ∷ flags ifs))) is)
-    by None is in_place = record { misplaced = λ _. in_place ∙ ap (λ (o : Option Statements). not (is_in_then (is_some o ∷ flags ifs))) is; block = λ _. refl; more = λ _. refl; known = λ _. refl; literal = λ _. refl; outside = λ _. refl; unknown = λ _. refl; deep = λ _. refl }
+    by : (p : Option Statements) → l.then_part ≡ p → is_misplaced given ElseLine ≡ not (begins_with not (is_some l.then_part ∷ flags ifs)) → Outcome given ElseLine (else_from m b agents agent l ifs body p)
+    by (Some part) is in_place = misplaced_is given ElseLine (in_place ∙ ap (λ (o : Option Statements). not (begins_with not (is_some o ∷ flags ifs))) is)
+    by None is in_place = record { misplaced = λ _. in_place ∙ ap (λ (o : Option Statements). not (begins_with not (is_some o ∷ flags ifs))) is; block = λ _. refl; more = λ _. refl; known = λ _. refl; literal = λ _. refl; outside = λ _. refl; unknown = λ _. refl; deep = λ _. refl }
 else_outcome Empty given h = misplaced_is given ElseLine (placed Empty given ElseLine h)
 else_outcome (Named m) given h = misplaced_is given ElseLine (placed (Named m) given ElseLine h)
 else_outcome (Sized m b) given h = misplaced_is given ElseLine (placed (Sized m b) given ElseLine h)
 else_outcome (Whole t) given h = misplaced_is given ElseLine (placed (Whole t) given ElseLine h)
 
 end_outcome : (s : State) (given : List Form) → Holds given s → Outcome given EndLine (end_step s)
-unfolding end_step
+unfolding end_step is_faulty
 end_outcome (Open m b agents agent [] body) given h = misplaced_is given EndLine (placed (Open m b agents agent [] body) given EndLine h)
 end_outcome (Open m b agents agent (l ∷ ifs) body) given h = record { misplaced = λ _. placed (Open m b agents agent (l ∷ ifs) body) given EndLine h; block = λ _. refl; more = λ _. refl; known = λ _. refl; literal = λ _. refl; outside = λ _. refl; unknown = λ _. refl; deep = λ _. refl }
 end_outcome Empty given h = misplaced_is given EndLine (placed Empty given EndLine h)
@@ -200,7 +209,7 @@ check_outcome (Sized m b) given w h = misplaced_is given (CheckLine w) (placed (
 check_outcome (Whole t) given w h = misplaced_is given (CheckLine w) (placed (Whole t) given (CheckLine w) h)
 
 pub outcome : (s : State) (given : List Form) (f : Form) → Holds given s → Outcome given f (step s f)
-unfolding step
+unfolding step is_faulty
 outcome s given Blank h = record { misplaced = λ _. refl; block = λ _. refl; more = λ _. refl; known = λ _. refl; literal = λ _. refl; outside = λ _. refl; unknown = λ _. refl; deep = λ _. refl }
 outcome s given (TestLine name) h = test_outcome s given name h
 outcome s given (BytesLine bytes) h = block_outcome s given bytes h

@@ -5,13 +5,13 @@ use Rattle.std.specs.Str.{bytes_eq}
 use Rattle.lit_read.specs.declared.fault.ReadKind.{ReadKind}
 use Rattle.lit_read.specs.declared.fault.ReadKind.TheVariants.{BlockSize, TooManyAgents, DuplicateAgent, LiteralRange, OutOfBlock, UnknownName, TooDeep}
 use Rattle.lit_syntax.specs.declared.limits.TheConstants.{BLOCK_LIMIT, AGENT_LIMIT, COMPARED_LIMIT, IF_LIMIT}
-use Rattle.lit_syntax.specs.Syntax.{Statement, Statements, Load, Store, Exchange, CompareExchange, If, End, Then}
+use Rattle.lit_syntax.specs.Syntax.{Statement, Statements, Load, Store, Exchange, CompareExchange, If, End}
 use Rattle.lit_syntax.specs.Written.{Written, is_shallow}
-use Rattle.lit_syntax.specs.Forms.{Form, Blank, TestLine, BytesLine, AgentLine, StatementLine, IfLine, ElseLine, EndLine, CheckLine, IsAccess, IsForm}
-use Rattle.lit_read.specs.Structure.{IsStatement, AreStatements, AreElse}
-use Rattle.lit_read.specs.Faults.{has_fitting_literals, stays_in_block, has_small_numbers}
+use Rattle.lit_syntax.specs.Forms.{Form, Blank, TestLine, BytesLine, AgentLine, StatementLine, IfLine, ElseLine, EndLine, CheckLine, IsForm}
+use Rattle.lit_read.specs.Structure.{IsStatement}
+use Rattle.lit_read.specs.Faults.{stays_in_block}
 use Rattle.lit_read.specs.Spelling.{written_value}
-use Rattle.lit_read.specs.Internal.State.{State, Empty, Named, Sized, Open, Whole, OpenIf, followed_by, with_agent, else_from, ended_if, are_known, test_step, block_step, next_step, agent_step, statement_step, if_step, else_step, end_step, test_of, whole, check_step, step}
+use Rattle.lit_read.specs.Internal.State.{State, Empty, Named, Sized, Open, Whole, OpenIf, followed_by, with_agent, else_from, ended_if, are_known, test_step, block_step, next_step, agent_step, statement_step, if_step, else_step, end_step, test_of, whole, check_step, step, has_fitting_literals, has_small_numbers}
 use Rattle.lit_read.proofs.SpellLemmas.{statements_added}
 use Rattle.lit_read.proofs.DraftForms.{AreParts, AreOpen, opening, Holds, agents_added}
 
@@ -34,7 +34,8 @@ open_added own gs [] body s a b = statements_added own gs body s a b
 open_added own gs (l ∷ ifs) body s a b =
     (a.0, a.1 ++ gs, ap (λ (x : List Form). x ++ gs) a.2 ∙ append_assoc a.0 (IfLine l.reg l.equal l.value ∷ a.1) gs, a.3, parts_added a.1 gs l.then_part body s a.4 b)
 
-pub access_line : (s : Statement) → IsAccess s → IsStatement (StatementLine s ∷ []) s
+pub access_line : (s : Statement) → IsForm (StatementLine s) → IsStatement (StatementLine s ∷ []) s
+unfolding IsForm
 access_line (Load r w i a) is = refl
 access_line (Store w i v a) is = refl
 access_line (Exchange r w i v) is = refl
@@ -42,14 +43,10 @@ access_line (CompareExchange r w i e v) is = refl
 access_line (If r e v b o) is = absurd is
 
 -- the whole `if` behind its end line
-else_part : (elses : List Form) (body : Statements) → AreStatements elses body → AreElse (ElseLine ∷ elses) body
-else_part elses End h = inr (ap (λ (l : List Form). ElseLine ∷ l) h)
-else_part elses (Then s ss) h = (h.0, h.1, ap (λ (l : List Form). ElseLine ∷ l) h.2, h.3, h.4)
-
 pub if_lines : (l : OpenIf) (inner : List Form) (part : Option Statements) (body : Statements) → AreParts inner part body → IsStatement (IfLine l.reg l.equal l.value ∷ (inner ++ EndLine ∷ [])) (ended_if l body part)
-if_lines l inner None body h = (inner, [], refl, h, inl refl)
+if_lines l inner None body h = (inner, [], refl, h, inl (refl, refl))
 if_lines l inner (Some part) body h =
-    (h.0, ElseLine ∷ h.1, ap (λ (x : List Form). IfLine l.reg l.equal l.value ∷ x) (ap (λ (x : List Form). x ++ EndLine ∷ []) h.2 ∙ append_assoc h.0 (ElseLine ∷ h.1) (EndLine ∷ [])), h.3, else_part h.1 body h.4)
+    (h.0, ElseLine ∷ h.1, ap (λ (x : List Form). IfLine l.reg l.equal l.value ∷ x) (ap (λ (x : List Form). x ++ EndLine ∷ []) h.2 ∙ append_assoc h.0 (ElseLine ∷ h.1) (EndLine ∷ [])), h.3, inr (h.1, refl, h.4))
 
 abbrev stands : Result State ReadKind → List Form → Type 0
 stands (Ok t) given = Holds given t
@@ -89,7 +86,7 @@ agent_holds Empty given name h = tt
 agent_holds (Named m) given name h = tt
 agent_holds (Whole t) given name h = tt
 
-statement_holds : (s : State) (given : List Form) (r : Statement) → IsAccess r → Holds given s → stands (statement_step s r) (given ++ StatementLine r ∷ [])
+statement_holds : (s : State) (given : List Form) (r : Statement) → IsForm (StatementLine r) → Holds given s → stands (statement_step s r) (given ++ StatementLine r ∷ [])
 unfolding statement_step
 statement_holds (Open m b agents agent ifs body) given r is h = by (has_fitting_literals r) (stays_in_block b r)
   where

@@ -11,10 +11,10 @@ use Rattle.lit_syntax.specs.declared.limits.TheConstants.{BLOCK_LIMIT, AGENT_LIM
 use Rattle.lit_syntax.specs.Syntax.{Statement, Statements, End, Agent, statement_nesting, IsStatementIn}
 use Rattle.lit_syntax.specs.Tokens.{IsWord}
 use Rattle.lit_syntax.specs.Written.{Written, is_shallow}
-use Rattle.lit_syntax.specs.Forms.{Form, Blank, TestLine, BytesLine, AgentLine, StatementLine, IfLine, ElseLine, EndLine, CheckLine, IsAccess, IsForm}
-use Rattle.lit_read.specs.Faults.{has_fitting_literals, stays_in_block, has_small_numbers}
+use Rattle.lit_syntax.specs.Forms.{Form, Blank, TestLine, BytesLine, AgentLine, StatementLine, IfLine, ElseLine, EndLine, CheckLine, IsForm}
+use Rattle.lit_read.specs.Faults.{stays_in_block}
 use Rattle.lit_read.specs.Spelling.{written_value}
-use Rattle.lit_read.specs.Internal.State.{State, Empty, Named, Sized, Open, Whole, OpenIf, followed_by, with_agent, are_known, else_open_if, else_from, ended_if, test_step, block_step, next_step, agent_step, statement_step, if_step, else_step, end_step, test_of, whole, check_step, step, IsPart, AreAgentsIn, IsState}
+use Rattle.lit_read.specs.Internal.State.{State, Empty, Named, Sized, Open, Whole, OpenIf, followed_by, with_agent, are_known, else_open_if, else_from, ended_if, test_step, block_step, next_step, agent_step, statement_step, if_step, else_step, end_step, test_of, whole, check_step, step, IsPart, AreAgentsIn, IsState, has_fitting_literals, has_small_numbers}
 use Rattle.lit_read.proofs.PartLemmas.{all_added, all_changed, distinct_changed, distinct_added, part_followed, statement_in, is_litmus}
 
 abbrev good : State → Result State ReadKind
@@ -89,7 +89,7 @@ agent_preserved Empty t next word is e = absurd cc
 agent_preserved (Named name) t next word is e = absurd cc
 agent_preserved (Whole l) t next word is e = absurd cc
 
-statement_preserved : (s t : State) (r : Statement) → IsState s → IsAccess r → statement_step s r ≡ Ok t → IsState t
+statement_preserved : (s t : State) (r : Statement) → IsState s → IsForm (StatementLine r) → statement_step s r ≡ Ok t → IsState t
 unfolding statement_step IsState
 statement_preserved (Open name bytes agents agent ifs body) t r is form e = by (has_fitting_literals r) refl (stays_in_block bytes r) refl e
   where

@@ -5,12 +5,12 @@ use Rattle.std.proofs.lemmas.List.Sums.{fold-append}
 use Rattle.lit_syntax.specs.Syntax.{Statement, Statements, Load, Store, Exchange, CompareExchange, If, End, Then, Agent, Condition, Litmus}
 use Rattle.lit_syntax.specs.Written.{Written}
 use Rattle.lit_syntax.specs.Forms.{Form, Blank, TestLine, BytesLine, AgentLine, StatementLine, IfLine, ElseLine, EndLine, CheckLine}
-use Rattle.lit_read.specs.Structure.{is_body_line, IsStatement, AreStatements, AreElse, AreAgents}
+use Rattle.lit_read.specs.Structure.{is_body_line, IsStatement, AreStatements, AreAgents}
 use Rattle.lit_read.specs.Spelling.{written_value, AreFormsOf}
 use Rattle.lit_read.specs.Canonical.{statement_forms, statements_forms, else_forms, agents_forms, starts_with_end, without_empty_elses}
 use Rattle.lit_read.specs.Internal.State.{OpenIf, followed_by, else_open_if, ended_if}
 use Rattle.lit_syntax.proofs.ListLemmas.{tail_is}
-use Rattle.lit_read.proofs.SpellLemmas.{are_body_lines, statements_body}
+use Rattle.lit_read.proofs.SpellLemmas.{AreElse, else_lines, are_body_lines, statements_body}
 
 -- ---- the statements that lines make
 
@@ -56,7 +56,7 @@ mutual
   statement_grows fs (If r e v part other) ifs body h =
       ap (fold grow (ifs, body)) h.2 ∙ fold-append grow (new_open_if r e v body ∷ ifs, End) h.0 (h.1 ++ EndLine ∷ [])
       ∙ ap (λ (g : Grown). fold grow g (h.1 ++ EndLine ∷ [])) (statements_grow h.0 part (new_open_if r e v body ∷ ifs) End h.3)
-      ∙ fold-append grow (new_open_if r e v body ∷ ifs, part) h.1 (EndLine ∷ []) ∙ else_grows h.1 other (new_open_if r e v body) ifs part refl h.4
+      ∙ fold-append grow (new_open_if r e v body ∷ ifs, part) h.1 (EndLine ∷ []) ∙ else_grows h.1 other (new_open_if r e v body) ifs part refl (else_lines h.1 other h.4)
 
   statements_grow : (fs : List Form) (ss : Statements) (ifs : List OpenIf) (body : Statements) → AreStatements fs ss → fold grow (ifs, body) fs ≡ (ifs, behind body ss)
   statements_grow fs End ifs body h = ap (fold grow (ifs, body)) h ∙ ap (λ (x : Statements). (ifs, x)) (sym (behind_end body))
@@ -188,7 +188,7 @@ mutual
       ap (λ (l : List Form). plain (l ++ rest)) h.2
       ∙ ap (λ (l : List Form). IfLine r e v ∷ plain l) (append_assoc h.0 (h.1 ++ EndLine ∷ []) rest ∙ ap (λ (l : List Form). h.0 ++ l) (append_assoc h.1 (EndLine ∷ []) rest))
       ∙ ap (λ (l : List Form). IfLine r e v ∷ l)
-      (statements_plain h.0 (h.1 ++ EndLine ∷ rest) part h.3 ∙ ap (λ (l : List Form). statements_forms part ++ l) (else_plain h.1 rest other h.4)
+      (statements_plain h.0 (h.1 ++ EndLine ∷ rest) part h.3 ∙ ap (λ (l : List Form). statements_forms part ++ l) (else_plain h.1 rest other (else_lines h.1 other h.4))
       ∙ sym (append_assoc (statements_forms part) (else_forms other ++ EndLine ∷ []) (plain rest) ∙ ap (λ (l : List Form). statements_forms part ++ l) (append_assoc (else_forms other) (EndLine ∷ []) (plain rest))))
 
   pub statements_plain : (fs rest : List Form) (ss : Statements) → AreStatements fs ss → plain (fs ++ rest) ≡ statements_forms ss ++ plain rest

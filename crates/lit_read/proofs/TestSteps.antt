@@ -8,10 +8,11 @@ use Rattle.lit_syntax.specs.declared.limits.TheConstants.{BLOCK_LIMIT, AGENT_LIM
 use Rattle.lit_syntax.specs.Syntax.{fits_window, Statement, Statements, Load, Store, Exchange, CompareExchange, If, End, Then, IsStatementIn, AreStatementsIn, statement_nesting, nesting, Condition, Agent, Litmus, IsLitmus}
 use Rattle.lit_syntax.specs.Written.{Written, is_shallow}
 use Rattle.lit_syntax.specs.Forms.{Form, TestLine, BytesLine, AgentLine, StatementLine, IfLine, ElseLine, EndLine, CheckLine}
-use Rattle.lit_read.specs.Structure.{IsStatement, AreStatements, AreElse, AreAgents}
-use Rattle.lit_read.specs.Faults.{has_fitting_literals, stays_in_block}
+use Rattle.lit_read.specs.Structure.{IsStatement, AreStatements, AreAgents}
+use Rattle.lit_read.proofs.SpellLemmas.{AreElse, else_lines}
+use Rattle.lit_read.specs.Faults.{stays_in_block}
 use Rattle.lit_read.specs.Spelling.{written_value, AreFormsOf}
-use Rattle.lit_read.specs.Internal.State.{OpenIf, State, Empty, Named, Sized, Open, Whole, followed_by, with_agent, else_open_if, are_known, test_step, block_step, next_step, agent_step, statement_step, if_step, else_step, end_step, check_step, step}
+use Rattle.lit_read.specs.Internal.State.{OpenIf, State, Empty, Named, Sized, Open, Whole, followed_by, with_agent, else_open_if, are_known, test_step, block_step, next_step, agent_step, statement_step, if_step, else_step, end_step, check_step, step, has_fitting_literals}
 use Rattle.lit_read.proofs.TestForms.{behind, behind_end, behind_one, new_open_if}
 use Rattle.lit_read.proofs.CanonicalForms.{differ}
 use Rattle.lit_read.proofs.CheckAsks.{check_small, check_known}
@@ -76,7 +77,7 @@ module _ (name : List ℕ) (bytes : ℕ) (agents : List Agent) (agent : List ℕ
           at inside End,
           begin_if r e v ifs body is.1 (omega arith),
           reaches_then h.0 (h.1 ++ EndLine ∷ []) (at inside End) (at inside part) (at ifs (followed_by body (If r e v part other)))
-              (statements_reached h.0 part inside End h.3 is.2 (omega arith)) (else_reached h.1 r e v body part other ifs h.4 is.3 (omega arith)),
+              (statements_reached h.0 part inside End h.3 is.2 (omega arith)) (else_reached h.1 r e v body part other ifs (else_lines h.1 other h.4) is.3 (omega arith)),
         )
 
     pub statements_reached : (fs : List Form) (ss : Statements) (ifs : List OpenIf) (body : Statements) → AreStatements fs ss → AreStatementsIn bytes ss → nesting ss + length ifs ≤ IF_LIMIT → Goes ifs body fs ifs (behind body ss)

@@ -4,7 +4,7 @@ use Rattle.std.specs.Str.{bytes_eq}
 use Rattle.lit_read.specs.declared.fault.ReadKind.{ReadKind}
 use Rattle.lit_syntax.specs.Syntax.{Condition, Conditions, Any, All, Not, Is, NoMore, Also, Agent, Litmus}
 use Rattle.lit_read.specs.Lines.{lines_of}
-use Rattle.lit_syntax.specs.Written.{Comparison, Operand, Compared, Negated, Grouped, Conjunction, Lone, Both, Written, Single, Either}
+use Rattle.lit_syntax.specs.Written.{Operand, Compared, Negated, Grouped, Conjunction, Lone, Both, Written, Single, Either}
 use Rattle.lit_syntax.specs.Forms.{Form, TestLine, BytesLine, CheckLine, HaveForms, without_blanks}
 use Rattle.lit_read.specs.Structure.{AreAgents}
 use Rattle.lit_read.specs.Faults.{HasFault}
@@ -14,34 +14,32 @@ abbrev pub place_of : List ℕ → List Agent → ℕ
 place_of name [] = 0
 place_of name (a ∷ others) = if bytes_eq name a.name then 0 else place_of name others + 1
 
--- a comparison with the agent's number in place of its name
-abbrev pub numbered : List Agent → Comparison → Condition
-numbered agents c = Is (place_of c.agent agents) c.reg c.equal c.value
+-- What an operand asks: a parenthesis adds nothing, and a conjunction or condition of one member is that member.
+abbrev mutual
+  pub operand_value : List Agent → Operand → Condition
+  operand_value agents (Compared c) = Is (place_of c.agent agents) c.reg c.equal c.value
+  operand_value agents (Negated o) = Not (operand_value agents o)
+  operand_value agents (Grouped w) = written_value agents w
 
--- What a condition asks: a parenthesis adds nothing, and a conjunction or condition of one member is that member.
-module _ (agents : List Agent) where
-  abbrev mutual
-    pub operand_value : Operand → Condition
-    operand_value (Compared c) = numbered agents c
-    operand_value (Negated o) = Not (operand_value o)
-    operand_value (Grouped w) = written_value w
+  -- what a conjunction asks
+  pub conjunction_value : List Agent → Conjunction → Condition
+  conjunction_value agents (Lone o) = operand_value agents o
+  conjunction_value agents (Both o c) = All (Also (operand_value agents o) (operand_values agents c))
 
-    pub conjunction_value : Conjunction → Condition
-    conjunction_value (Lone o) = operand_value o
-    conjunction_value (Both o c) = All (Also (operand_value o) (operand_values c))
+  -- what a condition asks
+  pub written_value : List Agent → Written → Condition
+  written_value agents (Single c) = conjunction_value agents c
+  written_value agents (Either c w) = Any (Also (conjunction_value agents c) (conjunction_values agents w))
 
-    pub written_value : Written → Condition
-    written_value (Single c) = conjunction_value c
-    written_value (Either c w) = Any (Also (conjunction_value c) (conjunction_values w))
+  -- what each operand asks
+  pub operand_values : List Agent → Conjunction → Conditions
+  operand_values agents (Lone o) = Also (operand_value agents o) NoMore
+  operand_values agents (Both o c) = Also (operand_value agents o) (operand_values agents c)
 
-    -- what each operand asks, and each conjunction
-    pub operand_values : Conjunction → Conditions
-    operand_values (Lone o) = Also (operand_value o) NoMore
-    operand_values (Both o c) = Also (operand_value o) (operand_values c)
-
-    pub conjunction_values : Written → Conditions
-    conjunction_values (Single c) = Also (conjunction_value c) NoMore
-    conjunction_values (Either c w) = Also (conjunction_value c) (conjunction_values w)
+  -- what each conjunction asks
+  pub conjunction_values : List Agent → Written → Conditions
+  conjunction_values agents (Single c) = Also (conjunction_value agents c) NoMore
+  conjunction_values agents (Either c w) = Also (conjunction_value agents c) (conjunction_values agents w)
 
 -- The forms, none of them blank, are those of the test in order.
 pub record AreFormsOf (forms : List Form) (t : Litmus) : Type 0 where

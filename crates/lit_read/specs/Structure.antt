@@ -1,30 +1,21 @@
 -- Which forms, one after the other, are those of statements and of agents (this project's own).
 use Rattle.std.specs.Prelude.{◌≡◌, ℕ, Bool, true, false, List, [], ◌∷◌, ◌++◌, ◌⊎◌}
-use Rattle.lit_syntax.specs.Syntax.{Statement, Statements, Load, Store, Exchange, CompareExchange, If, End, Then, Agent}
+use Rattle.lit_syntax.specs.Syntax.{Statement, Statements, If, End, Then, Agent}
 use Rattle.lit_syntax.specs.Forms.{Form, AgentLine, StatementLine, IfLine, ElseLine, EndLine}
 
--- An access has one line. An `if` has its line, the lines of the then-part, perhaps an else line and the lines of the
--- else-part, and an end line. The else line may stand there with an empty part.
+-- An access has one line. An `if` has its line, the lines of the then-part, an else line and the lines of the else-part, and
+-- an end line. Where the else-part is empty, the else line may be left out.
 abbrev mutual
   pub IsStatement : List Form → Statement → Type 0
   IsStatement forms (If reg equal value body other) =
       (thens elses : List Form) × (forms ≡ IfLine reg equal value ∷ (thens ++ (elses ++ EndLine ∷ []))) × AreStatements thens body
-      × AreElse elses other
-  IsStatement forms (Load reg window index atomic) = forms ≡ StatementLine (Load reg window index atomic) ∷ []
-  IsStatement forms (Store window index value atomic) = forms ≡ StatementLine (Store window index value atomic) ∷ []
-  IsStatement forms (Exchange reg window index value) = forms ≡ StatementLine (Exchange reg window index value) ∷ []
-  IsStatement forms (CompareExchange reg window index expected value) =
-      forms ≡ StatementLine (CompareExchange reg window index expected value) ∷ []
+      × (((elses ≡ []) × (other ≡ End)) ⊎ ((lines : List Form) × (elses ≡ ElseLine ∷ lines) × AreStatements lines other))
+  IsStatement forms access = forms ≡ StatementLine access ∷ []
 
+  -- the lines of each statement, in order
   pub AreStatements : List Form → Statements → Type 0
   AreStatements forms End = forms ≡ []
   AreStatements forms (Then s ss) = (first others : List Form) × (forms ≡ first ++ others) × IsStatement first s × AreStatements others ss
-
-  -- the else line and the else-part
-  pub AreElse : List Form → Statements → Type 0
-  AreElse forms End = (forms ≡ []) ⊎ (forms ≡ ElseLine ∷ [])
-  AreElse forms (Then s ss) =
-      (first others : List Form) × (forms ≡ ElseLine ∷ (first ++ others)) × IsStatement first s × AreStatements others ss
 
 -- each agent has its line and the lines of its statements
 abbrev pub AreAgents : List Form → List Agent → Type 0

@@ -6,8 +6,8 @@ pub(crate) mod symbols;
 ghost use Rattle.std.specs.Prelude.{◌≡◌, ◌<◌, ◌≤◌, ◌^◌, length, IsTrue, IfSome, IfNone, IfOk, option_map};
 ghost use Rattle.std.specs.List.{list_all, prefix_len};
 ghost use Rattle.std.specs.Char.{is_ascii_digit};
-ghost use Rattle.lit_syntax.specs.Tokens.{CutsInto, CannotBeCut, is_blank, begins_word, is_in_word, digits_value, is_comment};
-ghost use Rattle.lit_read.specs.Internal.FirstToken.{word_front, number_front, token_front, after_blanks};
+ghost use Rattle.lit_syntax.specs.Tokens.{CutsInto, CannotBeCut, is_blank, begins_word, is_in_word, digits_value};
+ghost use Rattle.lit_read.specs.Internal.FirstToken.{word_front, number_front, token_front, is_comment, after_blanks};
 ghost use Rattle.lit_read.specs.Internal.Views.{token_view, token_views};
 
 use crate::tokens::symbols::symbol_at;

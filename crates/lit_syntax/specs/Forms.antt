@@ -1,6 +1,6 @@
 -- The forms of a line (this project's own). A line's form is a function of that line alone.
 use Rattle.std.specs.Prelude.{◌≡◌, ℕ, ◌<◌, Bool, true, false, IsTrue, if◌then◌else◌, List, [], ◌∷◌, ◌++◌, codes}
-use Rattle.std.specs.List.{AllByRecursion}
+use Rattle.std.specs.List.{AllByRecursion, flat_map}
 use Rattle.lit_syntax.specs.declared.symbol.Symbol.TheVariants.{Same, Differs, Gives, OpenBracket, CloseBracket, OpenParen}
 use Rattle.lit_syntax.specs.declared.symbol.Symbol.TheVariants.{CloseParen, OpenBrace, CloseBrace, Comma, Dot}
 use Rattle.lit_syntax.specs.declared.limits.TheConstants.{REGISTERS}
@@ -28,52 +28,41 @@ window_word Uint16 = codes "U16"
 window_word Uint32 = codes "U32"
 window_word _ = []
 
--- VIEW[NUM]
-abbrev pub element_tokens : Window → ℕ → List Token
-element_tokens window index = Word (window_word window) ∷ Sign OpenBracket ∷ Number index ∷ Sign CloseBracket ∷ []
+-- OBJECT.NAME(ARG, ARG, ..)
+abbrev pub call_tokens : List ℕ → List ℕ → Token → List Token → List Token
+call_tokens object name first others =
+    Word object ∷ Sign Dot ∷ Word name ∷ Sign OpenParen ∷ first ∷ (flat_map (λ t. Sign Comma ∷ t ∷ []) others ++ Sign CloseParen ∷ [])
 
--- Atomics.NAME(VIEW, NUM
-abbrev pub atomic_tokens : List ℕ → Window → ℕ → List Token
-atomic_tokens name window index =
-    Word (codes "Atomics") ∷ Sign Dot ∷ Word name ∷ Sign OpenParen ∷ Word (window_word window) ∷ Sign Comma ∷ Number index ∷ []
-
--- DV.NAME(NUM
-abbrev pub data_view_tokens : List ℕ → ℕ → List Token
-data_view_tokens name index = Word (codes "DV") ∷ Sign Dot ∷ Word name ∷ Sign OpenParen ∷ Number index ∷ []
-
--- , true)
-abbrev pub little_endian_tokens : List Token
-little_endian_tokens = Sign Comma ∷ Word (codes "true") ∷ Sign CloseParen ∷ []
+-- Atomics.NAME(VIEW, ARG, ..)
+abbrev pub atomic_tokens : List ℕ → Window → List Token → List Token
+atomic_tokens name window others = call_tokens (codes "Atomics") name (Word (window_word window)) others
 
 -- what is read without `Atomics`
 abbrev pub read_tokens : Window → ℕ → List Token
-read_tokens DataView8 index = data_view_tokens (codes "getUint8") index ++ Sign CloseParen ∷ []
-read_tokens DataView16 index = data_view_tokens (codes "getUint16") index ++ little_endian_tokens
-read_tokens DataView32 index = data_view_tokens (codes "getUint32") index ++ little_endian_tokens
-read_tokens window index = element_tokens window index
+read_tokens DataView8 index = call_tokens (codes "DV") (codes "getUint8") (Number index) []
+read_tokens DataView16 index = call_tokens (codes "DV") (codes "getUint16") (Number index) (Word (codes "true") ∷ [])
+read_tokens DataView32 index = call_tokens (codes "DV") (codes "getUint32") (Number index) (Word (codes "true") ∷ [])
+read_tokens window index = Word (window_word window) ∷ Sign OpenBracket ∷ Number index ∷ Sign CloseBracket ∷ []
 
 -- a store without `Atomics`
 abbrev pub store_tokens : Window → ℕ → ℕ → List Token
-store_tokens DataView8 index value = data_view_tokens (codes "setUint8") index ++ Sign Comma ∷ Number value ∷ Sign CloseParen ∷ []
-store_tokens DataView16 index value = data_view_tokens (codes "setUint16") index ++ Sign Comma ∷ Number value ∷ little_endian_tokens
-store_tokens DataView32 index value = data_view_tokens (codes "setUint32") index ++ Sign Comma ∷ Number value ∷ little_endian_tokens
-store_tokens window index value = element_tokens window index ++ Sign Gives ∷ Number value ∷ []
+store_tokens DataView8 index value = call_tokens (codes "DV") (codes "setUint8") (Number index) (Number value ∷ [])
+store_tokens DataView16 index value = call_tokens (codes "DV") (codes "setUint16") (Number index) (Number value ∷ Word (codes "true") ∷ [])
+store_tokens DataView32 index value = call_tokens (codes "DV") (codes "setUint32") (Number index) (Number value ∷ Word (codes "true") ∷ [])
+store_tokens window index value = read_tokens window index ++ Sign Gives ∷ Number value ∷ []
 
 -- the line of an access
 abbrev pub statement_tokens : Statement → List Token
 statement_tokens (Load reg window index false) = Word (register_word reg) ∷ Sign Gives ∷ read_tokens window index
 statement_tokens (Load reg window index true) =
-    Word (register_word reg) ∷ Sign Gives ∷ (atomic_tokens (codes "load") window index ++ Sign CloseParen ∷ [])
+    Word (register_word reg) ∷ Sign Gives ∷ atomic_tokens (codes "load") window (Number index ∷ [])
 statement_tokens (Store window index value false) = store_tokens window index value
-statement_tokens (Store window index value true) =
-    atomic_tokens (codes "store") window index ++ Sign Comma ∷ Number value ∷ Sign CloseParen ∷ []
+statement_tokens (Store window index value true) = atomic_tokens (codes "store") window (Number index ∷ Number value ∷ [])
 statement_tokens (Exchange reg window index value) =
-    Word (register_word reg) ∷ Sign Gives
-    ∷ (atomic_tokens (codes "exchange") window index ++ Sign Comma ∷ Number value ∷ Sign CloseParen ∷ [])
+    Word (register_word reg) ∷ Sign Gives ∷ atomic_tokens (codes "exchange") window (Number index ∷ Number value ∷ [])
 statement_tokens (CompareExchange reg window index expected value) =
     Word (register_word reg) ∷ Sign Gives
-    ∷ (atomic_tokens (codes "compareExchange") window index ++ Sign Comma ∷ Number expected ∷ Sign Comma ∷ Number value ∷ Sign CloseParen
-    ∷ [])
+    ∷ atomic_tokens (codes "compareExchange") window (Number index ∷ Number expected ∷ Number value ∷ [])
 statement_tokens (If reg equal value body other) = []
 
 -- the tokens that spell a form
@@ -89,37 +78,28 @@ spelled ElseLine = Sign CloseBrace ∷ Word (codes "else") ∷ Sign OpenBrace �
 spelled EndLine = Sign CloseBrace ∷ []
 spelled (CheckLine w) = Word (codes "check") ∷ written_tokens w
 
--- the accesses that have a line
-abbrev pub IsAccess : Statement → Type 0
-IsAccess (Load reg window index atomic) = (reg < REGISTERS) × (IsTrue atomic → is_data_view window ≡ false)
-IsAccess (Store window index value atomic) = IsTrue atomic → is_data_view window ≡ false
-IsAccess (Exchange reg window index value) = (reg < REGISTERS) × (is_data_view window ≡ false)
-IsAccess (CompareExchange reg window index expected value) = (reg < REGISTERS) × (is_data_view window ≡ false)
-IsAccess (If reg equal value body other) = ⊥
-
--- what can stand in a line
+-- what can stand in a line; of statements, the accesses
 unfoldable pub IsForm : Form → Type 0
-IsForm (StatementLine s) = IsAccess s
+IsForm (StatementLine (Load reg window index atomic)) = (reg < REGISTERS) × (IsTrue atomic → is_data_view window ≡ false)
+IsForm (StatementLine (Store window index value atomic)) = IsTrue atomic → is_data_view window ≡ false
+IsForm (StatementLine (Exchange reg window index value)) = (reg < REGISTERS) × (is_data_view window ≡ false)
+IsForm (StatementLine (CompareExchange reg window index expected value)) = (reg < REGISTERS) × (is_data_view window ≡ false)
+IsForm (StatementLine (If reg equal value body other)) = ⊥
 IsForm (IfLine reg equal value) = reg < REGISTERS
 IsForm (CheckLine w) = AllByRecursion (λ p. p.0.reg < REGISTERS) (written_depths 0 w)
 IsForm _ = Unit {0}
 
--- the tokens spell the form, and it can stand in a line
-abbrev pub IsSpelling : List Token → Form → Type 0
-IsSpelling tokens form = (tokens ≡ spelled form) × IsForm form
-
--- some tokens that the line cuts into spell the form
+-- some tokens that the line cuts into spell the form, and it can stand in a line
 pub record HasForm (line : List ℕ) (form : Form) : Type 0 where
   pub tokens : List Token
   pub cut : CutsInto line tokens
-  pub spelling : IsSpelling tokens form
+  pub spelling : (tokens ≡ spelled form) × IsForm form
 
 -- the lines have these forms, one each
 unfoldable pub HaveForms : List (List ℕ) → List Form → Type 0
 HaveForms [] [] = Unit {0}
-HaveForms [] (f ∷ fs) = ⊥
-HaveForms (l ∷ ls) [] = ⊥
 HaveForms (l ∷ ls) (f ∷ fs) = HasForm l f × HaveForms ls fs
+HaveForms _ _ = ⊥
 
 -- the forms that say something
 abbrev pub without_blanks : List Form → List Form

@@ -1,6 +1,6 @@
 -- What a text can say: the limits and rules of a test.
 use Rattle.std.specs.Prelude.{◌≡◌, ◌≢◌, ℕ, ◌+◌, ◌/◌, ◌^◌, ◌<◌, ◌≤◌, ◌==◌, nat_lt, nat_le, max}
-use Rattle.std.specs.Prelude.{Bool, true, false, IsTrue, ◌||◌, [], length, slice_index_or}
+use Rattle.std.specs.Prelude.{Bool, true, false, IsTrue, ◌||◌, if◌then◌else◌, [], length, slice_index_or}
 use Rattle.lit_syntax.specs.declared.limits.TheConstants.{BLOCK_LIMIT, AGENT_LIMIT, REGISTERS, COMPARED_LIMIT, IF_LIMIT}
 use Rattle.lit_syntax.specs.Tokens.{IsWord}
 pub use Rattle.lit_syntax.specs.Trees.{Window, Uint8, Uint16, Uint32, DataView8, DataView16, DataView32, Statement}
@@ -17,28 +17,21 @@ agent_of t i = slice_index_or t.agents i (record { name = []; body = End })
 abbrev pub window_size : Window → ℕ
 window_size Uint8 = 1
 window_size Uint16 = 2
-window_size Uint32 = 4
 window_size DataView8 = 1
 window_size DataView16 = 2
-window_size DataView32 = 4
+window_size _ = 4
 
 -- whether it is a DataView call
 abbrev pub is_data_view : Window → Bool
-is_data_view Uint8 = false
-is_data_view Uint16 = false
-is_data_view Uint32 = false
 is_data_view DataView8 = true
 is_data_view DataView16 = true
 is_data_view DataView32 = true
+is_data_view _ = false
 
 -- The whole access lies in a block of `bytes` bytes. A typed array has as many elements as fit.
 abbrev pub is_in_block : ℕ → Window → ℕ → Bool
-is_in_block bytes Uint8 index = nat_lt index bytes
-is_in_block bytes Uint16 index = nat_lt index (bytes / 2)
-is_in_block bytes Uint32 index = nat_lt index (bytes / 4)
-is_in_block bytes DataView8 index = nat_le (index + 1) bytes
-is_in_block bytes DataView16 index = nat_le (index + 2) bytes
-is_in_block bytes DataView32 index = nat_le (index + 4) bytes
+is_in_block bytes window index =
+    if is_data_view window then nat_le (index + window_size window) bytes else nat_lt index (bytes / window_size window)
 
 -- a number that the access can write
 abbrev pub fits_window : Window → ℕ → Bool
@@ -76,7 +69,7 @@ abbrev mutual
   nesting End = 0
   nesting (Then s ss) = max (statement_nesting s) (nesting ss)
 
--- whether a register is written anywhere in a text
+-- whether a statement, or one in it, writes a register
 abbrev mutual
   pub statement_writes : Statement → ℕ → Bool
   statement_writes (Load r window index atomic) reg = r == reg
@@ -85,6 +78,7 @@ abbrev mutual
   statement_writes (CompareExchange r window index expected value) reg = r == reg
   statement_writes (If r equal value body other) reg = writes body reg || writes other reg
 
+  -- whether one of the statements, or one in them, writes a register
   pub writes : Statements → ℕ → Bool
   writes End reg = false
   writes (Then s ss) reg = statement_writes s reg || writes ss reg

@@ -1,5 +1,5 @@
 -- The tokens of a line (this project's own).
-use Rattle.std.specs.Prelude.{◌≡◌, ℕ, ◌+◌, ◌-◌, ◌*◌, ◌≤◌, ◌==◌, ◌||◌, ◌&&◌, Bool, true, false}
+use Rattle.std.specs.Prelude.{◌≡◌, ℕ, ◌+◌, ◌-◌, ◌*◌, ◌≤◌, ◌==◌, ◌||◌, ◌⊎◌, Bool, false}
 use Rattle.std.specs.Prelude.{IsTrue, List, [], ◌∷◌, ◌++◌, length, fold, codes, not}
 use Rattle.std.specs.List.{list_all}
 use Rattle.std.specs.Char.{is_ascii_alphabetic, is_ascii_alphanumeric, is_ascii_digit}
@@ -8,11 +8,13 @@ use Rattle.lit_syntax.specs.declared.symbol.Symbol.TheVariants.{Same, Differs, A
 use Rattle.lit_syntax.specs.declared.symbol.Symbol.TheVariants.{OpenParen, CloseParen, OpenBrace, CloseBrace, Comma, Dot}
 use Rattle.lit_syntax.specs.declared.limits.TheConstants.{WORD_LIMIT, DIGIT_LIMIT}
 
+-- a word, a number or a symbol
 pub data Token : Type 0 where
   Word : (text : List ℕ) → Token
   Number : (value : ℕ) → Token
   Sign : (symbol : Symbol) → Token
 
+-- a tab, a carriage return or a space
 abbrev pub is_blank : ℕ → Bool
 is_blank b = b == 9 || b == 13 || b == 32
 
@@ -24,11 +26,12 @@ begins_word b = is_ascii_alphabetic b || b == 95
 abbrev pub is_in_word : ℕ → Bool
 is_in_word b = is_ascii_alphanumeric b || b == 95
 
--- whether a text begins with a byte that satisfies the predicate
-abbrev pub begins_with : (ℕ → Bool) → List ℕ → Bool
+-- whether a list begins with a member that satisfies the predicate
+abbrev pub begins_with : {A : Type 0} → (A → Bool) → List A → Bool
 begins_with p [] = false
-begins_with p (b ∷ bs) = p b
+begins_with p (x ∷ xs) = p x
 
+-- a letter or `_`, and then letters, digits and `_`: at most as many as a word may have
 pub record IsWord (text : List ℕ) : Type 0 where
   pub first : IsTrue (begins_with begins_word text)
   pub others : IsTrue (list_all is_in_word text)
@@ -38,17 +41,13 @@ pub record IsWord (text : List ℕ) : Type 0 where
 abbrev pub digits_value : List ℕ → ℕ
 digits_value digits = fold (λ value digit. value * 10 + (digit - 48)) 0 digits
 
--- `0`, or digits that do not begin with 0
-abbrev pub has_plain_lead : List ℕ → Bool
-has_plain_lead [] = false
-has_plain_lead (b ∷ []) = true
-has_plain_lead (b ∷ c ∷ bs) = not (b == 48)
-
+-- `0`, or digits that do not begin with 0, at most as many as a number may have
 pub record IsNumber (digits : List ℕ) : Type 0 where
-  pub lead : IsTrue (has_plain_lead digits)
+  pub lead : (digits ≡ codes "0") ⊎ IsTrue (begins_with (λ b. not (b == 48)) digits)
   pub each : IsTrue (list_all is_ascii_digit digits)
   pub short : length digits ≤ DIGIT_LIMIT
 
+-- how a symbol is written
 abbrev pub symbol_text : Symbol → List ℕ
 symbol_text Same = codes "=="
 symbol_text Differs = codes "!="
@@ -79,33 +78,14 @@ CanEndBefore (Sign Gives) rest = begins_with (λ b. b == 61) rest ≡ false
 CanEndBefore (Sign Not) rest = begins_with (λ b. b == 61) rest ≡ false
 CanEndBefore (Sign _) rest = Unit {0}
 
--- the line is blanks, the token, and the rest
-pub record CutsOff (line : List ℕ) (token : Token) (rest : List ℕ) : Type 0 where
-  pub blanks : List ℕ
-  pub text : List ℕ
-  pub parts : line ≡ blanks ++ (text ++ rest)
-  pub all_blank : IsTrue (list_all is_blank blanks)
-  pub spelled : IsTokenText token text
-  pub longest : CanEndBefore token rest
-
--- nothing, or `//` and whatever follows it
-abbrev pub is_comment : List ℕ → Bool
-is_comment [] = true
-is_comment (a ∷ []) = false
-is_comment (a ∷ b ∷ bs) = (a == 47) && (b == 47)
-
--- blanks, and then perhaps a comment
-pub record IsTail (line : List ℕ) : Type 0 where
-  pub blanks : List ℕ
-  pub comment : List ℕ
-  pub parts : line ≡ blanks ++ comment
-  pub all_blank : IsTrue (list_all is_blank blanks)
-  pub ended : IsTrue (is_comment comment)
-
--- The line is blanks, tokens and blanks in turn, and then perhaps a comment.
+-- The line is blanks, tokens and blanks in turn, and then nothing, or a comment: `//` and whatever follows it.
 unfoldable pub CutsInto : List ℕ → List Token → Type 0
-CutsInto line [] = IsTail line
-CutsInto line (t ∷ ts) = (rest : List ℕ) × CutsOff line t rest × CutsInto rest ts
+CutsInto line [] =
+    (blanks comment : List ℕ) × (line ≡ blanks ++ comment) × IsTrue (list_all is_blank blanks)
+    × ((comment ≡ []) ⊎ ((rest : List ℕ) × (comment ≡ codes "//" ++ rest)))
+CutsInto line (t ∷ ts) =
+    (blanks text rest : List ℕ) × (line ≡ blanks ++ (text ++ rest)) × IsTrue (list_all is_blank blanks) × IsTokenText t text
+    × CanEndBefore t rest × CutsInto rest ts
 
 -- it cannot be cut into tokens
 abbrev pub CannotBeCut : List ℕ → Type 0

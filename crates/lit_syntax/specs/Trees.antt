@@ -38,6 +38,7 @@ mutual
     NoMore : Conditions
     Also : Condition → Conditions → Conditions
 
+-- an agent: its name and its statements
 pub record Agent : Type 0 where
   pub name : List ℕ
   pub body : Statements

@@ -3,8 +3,9 @@ use Rattle.std.specs.Prelude.{ℕ, zero, suc, ◌+◌, ◌≤◌, nat_le, if◌t
 use Rattle.lit_read.specs.declared.fault.ReadKind.{ReadKind}
 use Rattle.lit_read.specs.declared.fault.ReadKind.TheVariants.{Syntax, TooDeep}
 use Rattle.lit_syntax.specs.declared.limits.TheConstants.{DEPTH_LIMIT, COMPARED_LIMIT}
-use Rattle.lit_syntax.specs.Syntax.{Condition, Conditions, Any, All, Not, NoMore, Also, Agent}
-use Rattle.lit_read.specs.Spelling.{numbered}
+use Rattle.lit_syntax.specs.Syntax.{Condition, Conditions, Any, All, Not, Is, NoMore, Also, Agent}
+use Rattle.lit_syntax.specs.Written.{Comparison}
+use Rattle.lit_read.specs.Spelling.{place_of}
 use Rattle.lit_read.specs.Internal.Marks.{Mark, Bang, Opens, Closes, Joins, Parts, Compares}
 
 -- The part of a parenthesized condition that is read so far: how many `!` and `(` are around it, the `!` before the next
@@ -19,6 +20,10 @@ pub record Group : Type 0 where
 pub record Groups : Type 0 where
   pub inner : Group
   pub outer : List Group
+
+-- a comparison with the agent's number in place of its name
+abbrev pub numbered : List Agent → Comparison → Condition
+numbered agents c = Is (place_of c.agent agents) c.reg c.equal c.value
 
 -- members with one more at the end
 abbrev pub pushed : Conditions → Condition → Conditions

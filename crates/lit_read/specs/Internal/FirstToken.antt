@@ -1,5 +1,6 @@
 -- The token at the front of a line, as it is computed. Private contracts alone cite this: `Tokens` has the definition.
-use Rattle.std.specs.Prelude.{ℕ, ◌==◌, ◌&&◌, ◌||◌, nat_lt, if◌then◌else◌, List, [], ◌∷◌, take, drop, Option, Some, None, not}
+use Rattle.std.specs.Prelude.{ℕ, ◌==◌, ◌&&◌, ◌||◌, nat_lt, Bool, true, false, not, if◌then◌else◌}
+use Rattle.std.specs.Prelude.{List, [], ◌∷◌, take, drop, Option, Some, None}
 use Rattle.std.specs.Option.{option_map}
 use Rattle.std.specs.List.{prefix_len}
 use Rattle.std.specs.Char.{is_ascii_digit}
@@ -7,7 +8,7 @@ use Rattle.lit_syntax.specs.declared.symbol.Symbol.{Symbol}
 use Rattle.lit_syntax.specs.declared.symbol.Symbol.TheVariants.{Same, Differs, And, Or, Gives, Not, OpenBracket, CloseBracket}
 use Rattle.lit_syntax.specs.declared.symbol.Symbol.TheVariants.{OpenParen, CloseParen, OpenBrace, CloseBrace, Comma, Dot}
 use Rattle.lit_syntax.specs.declared.limits.TheConstants.{WORD_LIMIT, DIGIT_LIMIT}
-use Rattle.lit_syntax.specs.Tokens.{Token, Word, Number, Sign, is_blank, begins_word, is_in_word, digits_value, has_plain_lead}
+use Rattle.lit_syntax.specs.Tokens.{Token, Word, Number, Sign, is_blank, begins_word, is_in_word, digits_value}
 
 -- a symbol of two bytes
 unfoldable pub pair_of : ℕ → ℕ → Option Symbol
@@ -48,6 +49,12 @@ word_front bytes =
     let n = prefix_len is_in_word bytes in
     if nat_lt WORD_LIMIT n then None else Some (Word (take n bytes), drop n bytes)
 
+-- `0`, or digits that do not begin with 0
+abbrev pub has_plain_lead : List ℕ → Bool
+has_plain_lead [] = false
+has_plain_lead (b ∷ []) = true
+has_plain_lead (b ∷ c ∷ bs) = not (b == 48)
+
 unfoldable pub number_front : List ℕ → Option (Token × List ℕ)
 number_front bytes =
     let n = prefix_len is_ascii_digit bytes in
@@ -59,6 +66,12 @@ token_front (b ∷ bs) =
     if begins_word b then word_front (b ∷ bs)
     else (if is_ascii_digit b then number_front (b ∷ bs)
     else option_map (λ p. (Sign p.0, p.1)) (symbol_front (b ∷ bs)))
+
+-- nothing, or `//` and whatever follows it
+abbrev pub is_comment : List ℕ → Bool
+is_comment [] = true
+is_comment (a ∷ []) = false
+is_comment (a ∷ b ∷ bs) = (a == 47) && (b == 47)
 
 -- what stands behind the blanks at the front
 abbrev pub after_blanks : List ℕ → List ℕ

@@ -1,13 +1,13 @@
 -- The marks of a condition, one after the other: its operators, parentheses and comparisons.
-use Rattle.std.specs.Prelude.{◌≡◌, ℕ, zero, suc, ◌<◌, nat_le, Bool, true, false, List, [], ◌∷◌, ◌++◌, Option, Some, None}
+use Rattle.std.specs.Prelude.{◌≡◌, ℕ, zero, suc, ◌<◌, nat_le, Bool, true, false, if◌then◌else◌, List, [], ◌∷◌, ◌++◌, Option, Some, None}
 use Rattle.std.specs.Option.{option_map}
 use Rattle.std.specs.List.{AllByRecursion}
-use Rattle.lit_syntax.specs.declared.symbol.Symbol.TheVariants.{And, Or, Not, OpenParen, CloseParen}
+use Rattle.lit_syntax.specs.declared.symbol.Symbol.TheVariants.{Same, Differs, And, Or, Not, OpenParen, CloseParen, Dot}
 use Rattle.lit_syntax.specs.declared.limits.TheConstants.{REGISTERS, COMPARED_LIMIT}
-use Rattle.lit_syntax.specs.Tokens.{Token, Sign}
+use Rattle.lit_syntax.specs.Tokens.{Token, Word, Number, Sign}
 use Rattle.lit_syntax.specs.Written.{Comparison, Operand, Compared, Negated, Grouped, Conjunction, Lone, Both, Written}
-use Rattle.lit_syntax.specs.Written.{Single, Either, comparison_tokens, written_tokens, written_depths}
-use Rattle.lit_syntax.specs.Forms.{Form, CheckLine, IsSpelling}
+use Rattle.lit_syntax.specs.Written.{Single, Either, register_word, written_tokens, written_depths}
+use Rattle.lit_syntax.specs.Forms.{Form, CheckLine, spelled, IsForm}
 use Rattle.lit_read.specs.Internal.FirstToken.{or_else}
 use Rattle.lit_read.specs.Internal.FormOfTokens.{after_sign, comparison_of}
 
@@ -18,6 +18,10 @@ pub data Mark : Type 0 where
   Joins : Mark
   Parts : Mark
   Compares : Comparison → Mark
+
+-- NAME.REG == NUM or NAME.REG != NUM
+abbrev pub comparison_tokens : Comparison → List Token
+comparison_tokens c = Word c.agent ∷ Sign Dot ∷ Word (register_word c.reg) ∷ Sign (if c.equal then Same else Differs) ∷ Number c.value ∷ []
 
 abbrev pub mark_tokens : Mark → List Token
 mark_tokens Bang = Sign Not ∷ []
@@ -76,6 +80,10 @@ SpellsMarks tokens marks =
 
 abbrev pub SpellsNoCondition : List Token → Type 0
 SpellsNoCondition tokens = (w : Written) → tokens ≡ written_tokens w → AllByRecursion (λ p. p.0.reg < REGISTERS) (written_depths 0 w) → ⊥
+
+-- the tokens spell the form, and it can stand in a line
+abbrev pub IsSpelling : List Token → Form → Type 0
+IsSpelling tokens form = (tokens ≡ spelled form) × IsForm form
 
 -- the tokens spell a form of this kind, a check line, or nothing
 abbrev pub SpellsForm : List Token → (Form → Type 0) → Type 0

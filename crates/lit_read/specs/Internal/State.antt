@@ -1,5 +1,5 @@
 -- The state of the reader: what the lines read so far say, and the step that each form makes.
-use Rattle.std.specs.Prelude.{◌≢◌, ℕ, ◌+◌, ◌≤◌, ◌<◌, ◌==◌, ◌||◌, nat_lt, nat_le, Bool, true, if◌then◌else◌}
+use Rattle.std.specs.Prelude.{◌≢◌, ℕ, ◌+◌, ◌≤◌, ◌<◌, ◌==◌, ◌||◌, ◌&&◌, nat_lt, nat_le, Bool, true, if◌then◌else◌}
 use Rattle.std.specs.Prelude.{List, [], ◌∷◌, ◌++◌, length, Option, Some, None, Result, Ok, Err, IfSome}
 use Rattle.std.specs.List.{list_any, list_all, AllByRecursion}
 use Rattle.std.specs.Str.{bytes_eq}
@@ -7,11 +7,12 @@ use Rattle.lit_read.specs.declared.fault.ReadKind.{ReadKind}
 use Rattle.lit_read.specs.declared.fault.ReadKind.TheVariants.{Misplaced, BlockSize, TooManyAgents, DuplicateAgent}
 use Rattle.lit_read.specs.declared.fault.ReadKind.TheVariants.{LiteralRange, OutOfBlock, UnknownName, TooDeep}
 use Rattle.lit_syntax.specs.declared.limits.TheConstants.{BLOCK_LIMIT, AGENT_LIMIT, COMPARED_LIMIT, REGISTERS, IF_LIMIT}
-use Rattle.lit_syntax.specs.Syntax.{Statement, Statements, If, End, Then, Agent, Litmus, IsLitmus, AreStatementsIn, nesting, writes}
+use Rattle.lit_syntax.specs.Syntax.{Statement, Statements, Load, Store, Exchange, CompareExchange, If, End, Then, Agent, Litmus, IsLitmus}
+use Rattle.lit_syntax.specs.Syntax.{AreStatementsIn, nesting, writes, fits_window}
 use Rattle.lit_syntax.specs.Tokens.{IsWord}
 use Rattle.lit_syntax.specs.Written.{Comparison, Written, written_depths, is_shallow}
 use Rattle.lit_syntax.specs.Forms.{Form, Blank, TestLine, BytesLine, AgentLine, StatementLine, IfLine, ElseLine, EndLine, CheckLine}
-use Rattle.lit_read.specs.Faults.{has_fitting_literals, stays_in_block, has_small_numbers}
+use Rattle.lit_read.specs.Faults.{stays_in_block}
 use Rattle.lit_read.specs.Spelling.{written_value}
 use Rattle.lit_read.specs.Internal.Marks.{Mark, Compares}
 
@@ -59,6 +60,18 @@ is_known_mark agents _ = true
 
 abbrev pub are_known : List Agent → Written → Bool
 are_known agents w = list_all (λ p. is_known agents p.0) (written_depths 0 w)
+
+-- the numbers that an access writes fit their element
+abbrev pub has_fitting_literals : Statement → Bool
+has_fitting_literals (Load reg window index atomic) = true
+has_fitting_literals (Store window index value atomic) = fits_window window value
+has_fitting_literals (Exchange reg window index value) = fits_window window value
+has_fitting_literals (CompareExchange reg window index expected value) = fits_window window expected && fits_window window value
+has_fitting_literals (If reg equal value body other) = true
+
+-- every comparison compares with a number that a register can hold
+abbrev pub has_small_numbers : Written → Bool
+has_small_numbers w = list_all (λ p. nat_le p.0.value COMPARED_LIMIT) (written_depths 0 w)
 
 unfoldable pub test_step : State → List ℕ → Result State ReadKind
 test_step Empty name = Ok (Named name)

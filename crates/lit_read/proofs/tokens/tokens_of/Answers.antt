@@ -1,7 +1,6 @@
 use Rattle.std.proofs.Common.{◌≡◌, true, false, sym, ◌∙◌, Some, ◌∷◌, []}
 use Rattle.std.proofs.lemmas.List.{map-append}
-use Rattle.lit_syntax.specs.Tokens.{is_comment}
-use Rattle.lit_read.specs.Internal.FirstToken.{token_front, after_blanks}
+use Rattle.lit_read.specs.Internal.FirstToken.{token_front, is_comment, after_blanks}
 use Rattle.lit_read.specs.Internal.Views.{token_views, token_view}
 use Rattle.lit_read.proofs.Cuttings.{cutting_ends, cutting_fails, cutting_goes_on, cut_shorter}
 use Rattle.lit_read.proofs.tokens.tokens_of.Goals as goal
