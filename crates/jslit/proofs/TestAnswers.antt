@@ -75,15 +75,6 @@ quick_report_is t met unmet some other verdict p q first second is =
 pub report_is : (t : Litmus) (report : Report) (verdict : Verdict) → IsReport t (in_range 0 (length (choices_of t))) report → IsComplete t report → IsVerdict t report verdict → IsReportOf t (report_text t report verdict)
 report_is t report verdict reported complete judged = record { report = report; reported = reported; complete = complete; verdict = verdict; judged = judged; is = refl }
 
--- what was written is the answer's
-pub written_for : {X E : Type 0} (r : Result X E) (quick : Bool) (t : Litmus) (answer : List ℕ) (old new : Option (List ℕ)) → IsAnswerOf quick t answer → OnOk r (Appends old new answer) → OnOk r (HasWritten quick t old new)
-written_for (Ok x) quick t answer old new of written = record { answer = answer; of_test = of; written = written }
-written_for (Err e) quick t answer old new of written = tt
-
-pub begun_for : {X : Type 0} (r : Result X RunFault) (quick : Bool) (t : Litmus) (answer : List ℕ) (old new : Option (List ℕ)) → IsAnswerOf quick t answer → OnErr r (AppendsBeginning old new answer)
-    → IsErrOf r OutputFailed → HasWrittenSome quick t old new
-begun_for r quick t answer old new of begun failed = record { answer = answer; of_test = of; begun = on_err r OutputFailed (AppendsBeginning old new answer) begun failed }
-
 -- a beginning of the test's answer is one of the text's
 pub begun_on : (quick : Bool) (text : List ℕ) (t plan : Litmus) (old new : Option (List ℕ)) → Spells text t
     → ((fault : PlanFault) → ¬ IsRefusal t fault) → plan ≡ t

@@ -7,7 +7,7 @@ use Rattle.std.proofs.lemmas.List.FromFn.{map-range_with_len_more}
 use Rattle.lit_syntax.specs.Syntax.{Litmus, Agent, Statement, Statements, Load, Store, Exchange, CompareExchange, If, End, Then, agent_of}
 use Rattle.lit_paths.specs.declared.event.Event.{Event}
 use Rattle.lit_paths.specs.Event.{init_events}
-use Rattle.lit_paths.specs.Path.{Path, Step, walks_of, paths_of, path_on, events_on}
+use Rattle.lit_paths.specs.Path.{Path, Step, walks_of, path_on, events_on}
 use Rattle.lit_paths.specs.Members.{IsStatementWalk, IsWalk}
 use Rattle.lit_paths.specs.Choice.{product, combinations_of}
 use Rattle.lit_paths.specs.PathModel.{PathModel, path_model}
@@ -18,7 +18,7 @@ use Rattle.lit_paths.proofs.Products.{length-product}
 use Rattle.lit_paths.proofs.Digits.{later_ways, digit}
 use Rattle.lit_paths.proofs.Rising.{slice_get-map-found}
 use Rattle.lit_paths.proofs.Walks.{walks_of-known}
-use Rattle.lit_paths.proofs.PathLists.{combinations_of-known, paths_of_agents, agent_paths, slice_get-agent_paths}
+use Rattle.lit_paths.proofs.PathLists.{combinations_of-known, paths_of, paths_of_agents, agent_paths, slice_get-agent_paths}
 use Rattle.lit_paths.proofs.EventLists.{length-init_events}
 use Rattle.lit_paths.proofs.Combined.{walk_number-known, next_number}
 

@@ -8,7 +8,7 @@ use Rattle.std.specs.declared.cmp.Ordering.{Ordering}
 use Rattle.std.specs.declared.cmp.Ordering.TheVariants.{Less, Equal}
 use Rattle.std.proofs.lemmas.Option.{slice_get_within, slice_get-get_or, get_or_from_slice_get}
 use Rattle.lit_syntax.specs.Syntax.{Agent, Statements, Litmus, agent_of}
-use Rattle.lit_paths.specs.Path.{Path, Step, path_on, paths_of, walks_of, decisions_on}
+use Rattle.lit_paths.specs.Path.{Path, Step, path_on, walks_of, decisions_on}
 use Rattle.lit_paths.specs.Members.{IsPath, IsWalk, AreCombined, ListsCombinations}
 use Rattle.lit_paths.specs.Choice.{combinations_of}
 use Rattle.lit_paths.specs.Run.{Run, IsRun, run_path}
@@ -33,6 +33,10 @@ walks_of-iff ss steps = (
 -- the path that a run is on
 abbrev pub run-path : (owner : ℕ) (ss : Statements) (run : Run) → IsRun owner ss run → IsPath owner ss (run_path run)
 run-path owner ss run is = record { steps = is.steps; walked = (walks_of-iff ss is.steps).0 is.walked; taken = is.taken }
+
+-- all paths of an agent, by rising decisions
+abbrev pub paths_of : ℕ → Statements → List Path
+paths_of owner body = map (path_on owner) (walks_of body)
 
 pub paths_of-known : (owner : ℕ) (ss : Statements) (k : ℕ) (path : Path) → slice_get (paths_of owner ss) k ≡ Some path → IsPath owner ss path
 paths_of-known owner ss k path at =

@@ -1,15 +1,15 @@
 -- Where the events of agents stand among all events of a combination.
 use Rattle.std.proofs.Common.{◌≡◌, ◌≢◌, ℕ, zero, suc, ◌+◌, ◌-◌, ◌<◌, ◌≤◌, Bool, true, false, List, [], ◌∷◌, ◌++◌, length, take, get_or, slice_get, Some, None, Option, arith, refl, sym, ap, ◌∙◌, subst, ⊎_elim, length-append}
-use Rattle.std.specs.Prelude.{IsSome}
+use Rattle.std.specs.Prelude.{IsSome, if◌then◌else◌}
 use Rattle.std.proofs.lemmas.Bool.{cases_lt}
 use Rattle.std.proofs.lemmas.Option.{slice_get_within}
 use Rattle.std.proofs.lemmas.List.{get_or_append_left}
 use Rattle.std.proofs.lemmas.List.FromFn.{get_or-map-range_with_len}
 use Rattle.lit_syntax.specs.Syntax.{Litmus}
 use Rattle.lit_paths.specs.declared.event.Event.{Event}
-use Rattle.lit_paths.specs.declared.event.Order3.TheVariants.{Init}
+use Rattle.lit_paths.specs.declared.event.Order3.TheVariants.{Init, SeqCst, Unordered}
 use Rattle.lit_paths.specs.Event.{no_event, event_at, init_event, init_events}
-use Rattle.lit_paths.specs.Path.{Path, Step, LoadMet, StoreMet, ExchangeMet, CompareExchangeMet, IfMet, order_of, compare_exchange_event, events_on, path_on}
+use Rattle.lit_paths.specs.Path.{Path, Step, LoadMet, StoreMet, ExchangeMet, CompareExchangeMet, IfMet, compare_exchange_event, events_on, path_on}
 use Rattle.lit_paths.specs.Choice.{combinations_of}
 use Rattle.lit_paths.specs.Plan.{combination_at, events_in, walk_in, first_event}
 use Rattle.lit_paths.specs.Refusal.{accesses_on}
@@ -28,7 +28,7 @@ pub record IsAccessAt (owner place : ℕ) (e : Event) : Type 0 where
   pub placed : e.place ≡ place
   pub accessed : e.order ≢ Init
 
-pub order-other : (atomic : Bool) → order_of atomic ≢ Init
+pub order-other : (atomic : Bool) → (if atomic then SeqCst else Unordered) ≢ Init
 order-other true = λ e. cc
 order-other false = λ e. cc
 

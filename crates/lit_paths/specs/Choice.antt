@@ -5,7 +5,7 @@ use Rattle.std.specs.List.{flat_map, enumerate_from}
 use Rattle.lit_syntax.specs.Syntax.{Litmus}
 use Rattle.lit_paths.specs.declared.event.Event.{Event}
 use Rattle.lit_paths.specs.Event.{does_write, init_events}
-use Rattle.lit_paths.specs.Path.{Path, paths_of}
+use Rattle.lit_paths.specs.Path.{Path, path_on, walks_of}
 use Rattle.lit_paths.specs.ByteReads.{byte_reads}
 
 -- the decisions of each agent in order, and the source of each byte read
@@ -36,12 +36,11 @@ sources_of events = product (map (candidates_of events) (byte_reads events))
 
 -- the combinations of a path of each agent, by rising decisions
 abbrev pub combinations_of : Litmus → List (List Path)
-combinations_of t = product (map (λ agent. paths_of agent.0 agent.1.body) (enumerate_from 0 t.agents))
+combinations_of t = product (map (λ agent. map (path_on agent.0) (walks_of agent.1.body)) (enumerate_from 0 t.agents))
 
 -- the choices of one combination
 abbrev pub choices_on : ℕ → List Path → List Choice
-choices_on bytes paths =
-    map (λ sources. record { decisions = map (λ path. path.decisions) paths; sources = sources })
+choices_on bytes paths = map (λ sources. record { decisions = map (λ path. path.decisions) paths; sources = sources })
     (sources_of (events_of bytes (map (λ path. path.events) paths)))
 
 -- All choices of a test, in order. A choice's number is its place here.

@@ -7,14 +7,8 @@ use Rattle.lit_syntax.specs.Syntax.{Window, window_size, is_data_view, Statement
 use Rattle.lit_syntax.specs.Syntax.{Load, Store, Exchange, CompareExchange, If, End, Then}
 use Rattle.lit_paths.specs.declared.event.Kind.{Kind}
 use Rattle.lit_paths.specs.declared.event.Kind.TheVariants.{Read, Write, Modify}
-use Rattle.lit_paths.specs.declared.event.Order3.{Order3}
 use Rattle.lit_paths.specs.declared.event.Order3.TheVariants.{SeqCst, Unordered}
 use Rattle.lit_paths.specs.declared.event.Event.{Event}
-
--- Atomics make sequentially consistent events, other accesses unordered ones
-abbrev pub order_of : Bool → Order3
-order_of true = SeqCst
-order_of false = Unordered
 
 -- the first byte of an access: an index counts elements, or bytes in a DataView call
 abbrev pub first_byte : Window → ℕ → ℕ
@@ -24,11 +18,11 @@ first_byte window index = if is_data_view window then index else index * window_
 abbrev pub payload_of : ℕ → List ℕ
 payload_of value = value % 256 ∷ value / 256 % 256 ∷ value / 65536 % 256 ∷ value / 16777216 % 256 ∷ []
 
--- what an access makes; one that stores nothing has the value 0
+-- What an access makes; one that stores nothing has the value 0. Atomics make sequentially consistent events, other accesses unordered ones.
 abbrev pub access_event : Kind → (owner place : ℕ) → Window → (index value : ℕ) → (atomic : Bool) → Event
 access_event kind owner place window index value atomic = record {
   kind = kind;
-  order = order_of atomic;
+  order = if atomic then SeqCst else Unordered;
   no_tear = not (is_data_view window);
   first = first_byte window index;
   size = window_size window;
@@ -102,7 +96,3 @@ abbrev mutual
   pub walks_of : Statements → List (List Step)
   walks_of End = [] ∷ []
   walks_of (Then s ss) = flat_map (λ first. map (λ rest. first ++ rest) (walks_of ss)) (statement_walks s)
-
--- all paths of an agent, by rising decisions
-abbrev pub paths_of : ℕ → Statements → List Path
-paths_of owner body = map (path_on owner) (walks_of body)

@@ -27,12 +27,11 @@ AgreesWith (CompareExchangeMet reg window index expected stored succeeds ∷ ste
 AgreesWith (IfMet reg equal value holds ∷ steps) before values after =
     (holds ≡ compares equal (slice_index before reg) value) × AgreesWith steps before values after
 
--- the values chosen, and the path on which they are
+-- the values chosen, the path on which they are, and what each register holds at the end
 pub record Run : Type 0 where
   pub values : List ℕ
   pub decisions : List ℕ
   pub events : List Event
-  -- what each register holds at the end
   pub registers : List ℕ
 
 -- the path that a run is on

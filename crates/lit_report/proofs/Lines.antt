@@ -2,6 +2,7 @@
 use Rattle.std.proofs.Common.{◌≡◌, ℕ, ◌+◌, ◌<◌, ◌≤◌, Option, Some, None, List, [], ◌∷◌, ◌++◌, length, take, drop, get_or, codes, refl, sym, ap, ◌∙◌, append_assoc, length-take, arith}
 use Rattle.std.proofs.lemmas.List.{drop_more, drop_all, get_or_default}
 use Rattle.std.specs.Fmt.{decimal}
+use Rattle.std.specs.Option.{option_map_or}
 use Rattle.std.proofs.lemmas.Fmt.{decimal_digit}
 use Rattle.lit_syntax.specs.Syntax.{Litmus, agent_of}
 use Rattle.lit_paths.specs.declared.event.Event.{Event}
@@ -9,7 +10,7 @@ use Rattle.lit_paths.specs.Event.{no_event}
 use Rattle.lit_paths.specs.Outcome.{names_of}
 use Rattle.lit_valid.specs.Entry.{Entry}
 use Rattle.lit_report.specs.ChoiceEvents.{choice_at, choice_events}
-use Rattle.lit_report.specs.EntryText.{entry_text, event_name, from_lines, line, names_text, owned_name, registers_text}
+use Rattle.lit_report.specs.EntryText.{entry_text, event_name, from_lines, line, names_text, registers_text}
 use Rattle.lit_report.specs.EntryCache.{first_head, first_value, outcome_head, outcome_text, order_line, register_head}
 use Rattle.lit_report.proofs.RegisterLemmas.{register_last, registers_split}
 
@@ -27,17 +28,21 @@ short_name_is (x ∷ y ∷ ys) behind number d one small = absurd (let e = one i
 pub short_init_is : (byte : ℕ) → byte < 10 → codes " init[" ++ (48 + byte) ∷ codes "]" ≡ (codes " init[" ++ decimal byte) ++ codes "]"
 short_init_is byte small = rw (decimal_digit byte small) refl
 
+-- the name of an event at a place, by its owner
+abbrev named : Litmus → ℕ → Option ℕ → List ℕ
+named t place owner = option_map_or (λ agent. (agent_of t agent).name ++ codes "." ++ decimal place) owner (codes "init[" ++ decimal place ++ codes "]")
+
 -- the name of an agent's access
 pub access_name : (t : Litmus) (e : Event) (agent : ℕ) (name bytes : List ℕ) → e.owner ≡ Some agent → name ≡ (agent_of t agent).name → bytes ≡ name
     → codes " " ++ bytes ++ codes "." ++ decimal e.place ≡ codes " " ++ event_name t e
 access_name t e agent name bytes owner is same =
-    ap (λ (w : List ℕ). codes " " ++ w ++ codes "." ++ decimal e.place) (same ∙ is) ∙ ap (λ (o : Option ℕ). codes " " ++ owned_name t o e.place) (sym owner)
+    ap (λ (w : List ℕ). codes " " ++ w ++ codes "." ++ decimal e.place) (same ∙ is) ∙ ap (λ (o : Option ℕ). codes " " ++ named t e.place o) (sym owner)
 
 -- the name of an event that makes a byte
 pub init_name : (t : Litmus) (e : Event) → ((agent : ℕ) → e.owner ≡ Some agent → ⊥) → (codes " init[" ++ decimal e.place) ++ codes "]" ≡ codes " " ++ event_name t e
 init_name t e none = by e.owner none
   where
-    by : (o : Option ℕ) → ((agent : ℕ) → o ≡ Some agent → ⊥) → (codes " init[" ++ decimal e.place) ++ codes "]" ≡ codes " " ++ owned_name t o e.place
+    by : (o : Option ℕ) → ((agent : ℕ) → o ≡ Some agent → ⊥) → (codes " init[" ++ decimal e.place) ++ codes "]" ≡ codes " " ++ named t e.place o
     by None h = refl
     by (Some agent) h = absurd (h agent refl)
 

@@ -1,6 +1,7 @@
 -- The text of an entry of a report, as bytes (this project's own).
-use Rattle.std.specs.Prelude.{ℕ, ◌==◌, Option, None, Some, List, [], ◌∷◌, ◌++◌, map, filter, codes}
+use Rattle.std.specs.Prelude.{ℕ, ◌==◌, List, [], ◌∷◌, ◌++◌, map, filter, codes}
 use Rattle.std.specs.List.{flat_map, zip}
+use Rattle.std.specs.Option.{option_map_or}
 use Rattle.std.specs.Fmt.{decimal}
 use Rattle.lit_syntax.specs.Syntax.{Litmus, agent_of}
 use Rattle.lit_paths.specs.declared.event.Event.{Event}
@@ -16,13 +17,9 @@ abbrev pub line : List ℕ → List ℕ
 line bytes = bytes ++ 10 ∷ []
 
 -- an event by its owner and its place: `init[0]`, or `A.0`
-abbrev pub owned_name : Litmus → Option ℕ → ℕ → List ℕ
-owned_name t None place = codes "init[" ++ decimal place ++ codes "]"
-owned_name t (Some agent) place = (agent_of t agent).name ++ codes "." ++ decimal place
-
--- an event by its name
 abbrev pub event_name : Litmus → Event → List ℕ
-event_name t e = owned_name t e.owner e.place
+event_name t e =
+    option_map_or (λ agent. (agent_of t agent).name ++ codes "." ++ decimal e.place) e.owner (codes "init[" ++ decimal e.place ++ codes "]")
 
 -- a blank and the name of an event, for each of these numbers
 abbrev pub names_text : Litmus → List Event → List ℕ → List ℕ

@@ -16,8 +16,7 @@ pub record Gives (t : Litmus) (n : ℕ) (outcome : List ℕ) : Type 0 where
 
 -- The order is the least memory-order of every valid execution with this choice.
 abbrev pub HasLeastOrder : Litmus → ℕ → List ℕ → Type 0
-HasLeastOrder t n order =
-    (x : Execution) → IsValidExecution t x → slice_get (choices_of t) n ≡ Some (execution_choice x)
+HasLeastOrder t n order = (x : Execution) → IsValidExecution t x → slice_get (choices_of t) n ≡ Some (execution_choice x)
     → IsLeastMemoryOrder (execution_events t x) x.sources order
 
 -- Some valid execution with a data race has the choice with this number.

@@ -1,9 +1,9 @@
 //! The event of an access.
 
-ghost use Rattle.std.specs.Prelude.{◌≡◌, not, Some};
+ghost use Rattle.std.specs.Prelude.{◌≡◌, not, Some, if◌then◌else◌};
 ghost use Rattle.lit_syntax.specs.Syntax.{window_size, is_data_view as is_view};
 ghost use Rattle.lit_syntax.specs.Litmus.{window_of};
-ghost use Rattle.lit_paths.specs.Path.{order_of, first_byte as first_of, payload_of};
+ghost use Rattle.lit_paths.specs.Path.{first_byte as first_of, payload_of};
 ghost use Rattle.lit_paths.specs.Internal.Walks.{IsAccess};
 
 use crate::event::{Event, Kind, Order3};
@@ -44,7 +44,7 @@ fn first_byte(view: View, index: u8) -> u8
 
 /// The order of an access.
 fn order(atomic: bool) -> Order3
-    ensures { result ≡ order_of atomic }
+    ensures { result ≡ (if atomic then Order3.SeqCst else Order3.Unordered) }
 {
     if atomic {
         Order3::SeqCst
@@ -66,7 +66,7 @@ pub(crate) fn event_of(access: Access, place: u8, kind: Kind, atomic: bool, valu
     requires { IsAccess (window_of access.view) access.index }
     ensures { result ≡ record {
       kind = kind;
-      order = order_of atomic;
+      order = if atomic then Order3.SeqCst else Order3.Unordered;
       no_tear = not (is_view (window_of access.view));
       first = first_of (window_of access.view) access.index;
       size = window_size (window_of access.view);
