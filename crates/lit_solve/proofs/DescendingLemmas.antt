@@ -2,8 +2,8 @@
 use Rattle.lit_solve.proofs.Words.{◌+◌, ◌<◌, AreAloneBelow, AreSourcesIn, arith, Box, box_events, byte_reads, cases_eq, cases_lt, EventSet}
 use Rattle.lit_solve.proofs.Words.{Execution, get_or, get_or_from_slice_get, Goal, HasAlone, HasEmptyDomain, HasEvent, HasSource, inl, inr}
 use Rattle.lit_solve.proofs.Words.{IsCompletion, IsRestricted, IsLowest, IsLowestAt, IsNotLeastAt, IsSolution, IsSplit, IsWithin, length, Less}
-use Rattle.lit_solve.proofs.Words.{List, nat_cmp, slice_cmp, slice_get, slice_get-get_or, Some, subst, sym, ℕ, ◌↔◌, ◌∙◌, ◌≡◌, ◌≢◌, ◌≤◌}
-use Rattle.lit_solve.proofs.Words.{◌⊎◌}
+use Rattle.lit_solve.proofs.Words.{List, Litmus, MeetsGoal, nat_cmp, slice_cmp, slice_get, slice_get-get_or, Some, subst, sym, ℕ, ◌↔◌, ◌∙◌, ◌≡◌, ◌≢◌}
+use Rattle.lit_solve.proofs.Words.{◌≤◌, ◌⊎◌}
 use Rattle.lit_solve.proofs.BoxLemmas.{has_source}
 use Rattle.lit_solve.proofs.CompletionLemmas.{sourced}
 use Rattle.lit_solve.proofs.FrameLemmas.{below_or_last}
@@ -85,4 +85,19 @@ module _ (first was now : Box) (goal : Goal) (k : ℕ) (to : IsLowest first goal
           omega (arith, least, other, less)
 
   pub lowest_on : IsLowest first goal now
-  lowest_on = grind (arith, sources_are_less, lie_out)
+  lowest_on = record {
+    within = record {
+      test = on.within.test ∙ to.within.test;
+      combination = on.within.combination ∙ to.within.combination;
+      domains = λ j w h. to.within.domains j w (on.within.domains j w h);
+    };
+    not_least = λ x solves. elim (to.not_least x solves) [
+      | inl completes ↦
+          let meets = subst (λ (t : Litmus). MeetsGoal t goal x) (sym to.within.test) solves.meets in
+          elim (on.not_least x (record { completes = completes; meets = meets })) [
+            | inl stays ↦ inl stays
+            | inr not_least ↦ inr (sources_are_less x completes not_least)
+          ]
+      | inr less ↦ inr (λ sources lie. less sources (lie_out sources lie))
+    ];
+  }
