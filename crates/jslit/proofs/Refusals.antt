@@ -28,11 +28,6 @@ pub of_any_text : (remaining : Option (List ℕ)) (Holds : List ℕ → Type 0) 
 of_any_text None Holds holds = record { text = []; is_input = tt; holds = holds [] }
 of_any_text (Some bytes) Holds holds = record { text = take (TEXT_LIMIT + 1) bytes; is_input = refl; holds = holds (take (TEXT_LIMIT + 1) bytes) }
 
--- what an error ensures holds where there is one
-pub on_err : {X : Type 0} (r : Result X RunFault) (fault : RunFault) (A : Type 0) → OnErr r A → IsErrOf r fault → A
-on_err (Ok x) fault A holds failed = absurd cc
-on_err (Err e) fault A holds failed = holds
-
 -- a fault of writing says nothing of the text
 pub writing_on : {X : Type 0} (r : Result X RunFault) (text : List ℕ) → IfErr r IsOfWriting → IfErr r (IsFaultOn text)
 writing_on (Ok x) text of = tt

@@ -1,5 +1,5 @@
 -- What a search found, as the answer for a test and for a text.
-use Rattle.std.proofs.Common.{◌≡◌, ℕ, ◌+◌, ◌<◌, Bool, Option, Some, None, List, length, Ok, Err, OnOk, OnErr, IsErrOf, refl, sym, ap, subst, ◌∙◌, arith}
+use Rattle.std.proofs.Common.{◌≡◌, ℕ, ◌+◌, ◌<◌, Bool, Option, Some, None, List, length, Ok, Err, OnOk, refl, sym, ap, subst, ◌∙◌, arith}
 use Rattle.std.specs.Prelude.{IsTrue, is_some}
 use Rattle.std.proofs.lemmas.Bool.Decides.{nat_tests}
 use Rattle.std.proofs.lemmas.Option.{slice_get-get_or, slice_get_within}
@@ -16,7 +16,6 @@ use Rattle.lit_search.specs.FirstOfClass.{IsFirstOf}
 use Rattle.lit_valid.specs.Gives.{Gives}
 use Rattle.lit_search.specs.Report.{Report, IsReport, entry_at, in_range}
 use Rattle.jslit.specs.declared.fault.RunFault.{RunFault}
-use Rattle.jslit.specs.declared.fault.RunFault.TheVariants.{OutputFailed}
 use Rattle.lit_report.specs.declared.verdict.Verdict.{Verdict}
 use Rattle.jslit.specs.Answer.{HasBegun, HasReported, IsAnswerOf, IsComplete, IsQuickReportOf, IsReportOf}
 use Rattle.lit_report.specs.Writing.{AppendsBeginning}
@@ -25,7 +24,6 @@ use Rattle.lit_report.specs.Verdict.{IsVerdict, verdict_of}
 use Rattle.jslit.specs.Internal.Answering.{HasWritten, HasWrittenSome, IsFirstFound}
 use Rattle.lit_report.specs.Internal.FirstEntry.{entry_of_option}
 use Rattle.jslit.proofs.QuickAnswers.{quick_judged}
-use Rattle.jslit.proofs.Refusals.{on_err}
 use Rattle.lit_report.proofs.ReportEntries.{among_all}
 
 abbrev OneOutcome : Type 0
