@@ -1,5 +1,5 @@
 -- What is said of the faults of a run.
-use Rattle.std.proofs.Common.{◌≢◌, ◌+◌, ◌≤◌, ℕ, List, [], length, arith, take, Option, Some, None, OnErr, IfErr, IsErrOf, Ok, Err, refl, subst}
+use Rattle.std.proofs.Common.{◌≢◌, ◌+◌, ◌≤◌, ℕ, List, [], length, arith, take, Option, Some, None, IfErr, IsErrOf, Ok, Err, refl, subst}
 use Rattle.std.specs.declared.result.Result.{Result}
 use Rattle.lit_syntax.specs.Syntax.{Litmus}
 use Rattle.lit_syntax.specs.declared.limits.TheConstants.{TEXT_LIMIT}

@@ -15,10 +15,8 @@ use Rattle.lit_valid.specs.declared.class.Class.TheVariants.{Met, Unmet}
 use Rattle.lit_search.specs.FirstOfClass.{IsFirstOf}
 use Rattle.lit_valid.specs.Gives.{Gives}
 use Rattle.lit_search.specs.Report.{Report, IsReport, entry_at, in_range}
-use Rattle.jslit.specs.declared.fault.RunFault.{RunFault}
 use Rattle.lit_report.specs.declared.verdict.Verdict.{Verdict}
 use Rattle.jslit.specs.Answer.{HasBegun, HasReported, IsAnswerOf, IsComplete, IsQuickReportOf, IsReportOf}
-use Rattle.lit_report.specs.Writing.{AppendsBeginning}
 use Rattle.lit_report.specs.ReportText.{quick_text, report_text}
 use Rattle.lit_report.specs.Verdict.{IsVerdict, verdict_of}
 use Rattle.jslit.specs.Internal.Answering.{HasWritten, HasWrittenSome, IsFirstFound}
