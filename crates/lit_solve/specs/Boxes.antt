@@ -1,4 +1,4 @@
--- A range of the choices on a combination, restricted into boxes (this project's own).
+-- A range of the choices on a combination, cut into boxes (this project's own).
 use Rattle.std.specs.Prelude.{◌≡◌, ◌↔◌, ℕ, ◌+◌, ◌-◌, ◌*◌, ◌<◌, ◌≤◌, List, Option}
 use Rattle.std.specs.Prelude.{IfSome, Some, length, slice_get, slice_index}
 use Rattle.std.proofs.Common.{refl}

@@ -1,4 +1,4 @@
--- Notions of the contracts inside this crate: frames, and pruning them; filling reads; what domains say of outcomes; the restricted of a
+-- Notions of the contracts inside this crate: frames, and pruning them; filling reads; what domains say of outcomes; the cut of a
 -- range into boxes.
 pub mod Frames
 pub mod Pruning

@@ -1,4 +1,4 @@
--- The restricted of a range of choices into boxes: the range's ends, and how many boxes lie before and after the middle one.
+-- The cut of a range of choices into boxes: the range's ends, and how many boxes lie before and after the middle one.
 use Rattle.std.specs.Prelude.{◌≡◌, ◌≢◌, ℕ, ◌+◌, ◌-◌, ◌<◌, ◌≤◌, IfNone, IfSome, List, MatchOption}
 use Rattle.std.specs.Prelude.{Option, Some, length, option_map, slice_index}
 use Rattle.lit_syntax.specs.Syntax.{Litmus}
