@@ -76,8 +76,8 @@ can_fill-requires-clause-some c = (again c).fixpoint.exact.contained.some
 pub returns-clause-fixpoint : goal.returns-clause-fixpoint
 returns-clause-fixpoint c _ = (again c.before).fixpoint
 
-pub returns-clause-restrict : goal.returns-clause-restrict
-returns-clause-restrict c _ = (again c.before).cut
+pub returns-clause-restricted : goal.returns-clause-restricted
+returns-clause-restricted c _ = (again c.before).restricted
 
 pub returns-clause-less : goal.returns-clause-less
 returns-clause-less c _ not_all =
@@ -92,5 +92,5 @@ returns-clause-none c failed x is takes =
     let fixpoint_again = again c.before in
     let now = box_of c.args.self.now c.else-forces.frame in
     let fills = c.completions_fill_each_read.ensures now x c.byte_read-read.result.read fixpoint_again.fixpoint.exact.contained.is_box
-    (fixpoint_again.cut.retained x is takes) c.byte_read-read.ensures.read in
+    (fixpoint_again.restricted.retained x is takes) c.byte_read-read.ensures.read in
     not_true c.can_fill.result failed (c.can_fill.ensures.1 fills)

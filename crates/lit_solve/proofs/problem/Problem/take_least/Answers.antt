@@ -17,18 +17,18 @@ pub restrict-requires-clause-fixpoint : goal.restrict-requires-clause-fixpoint
 restrict-requires-clause-fixpoint c = subst (λ (f : Frame). IsFixpoint (box_of c.args.self.now f) f) (sym c.loop-source.invariant.same) c.requires.fixpoint
 
 -- the restriction of the frame as it was
-restricted_of : (c : Then-cut) → IsRestricted (box_of c.args.self.now c.args.frame.now) c.args.place c.set_of.result (box_of c.args.self.now c.restrict.new.frame)
+restricted_of : (c : Then-restrict) → IsRestricted (box_of c.args.self.now c.args.frame.now) c.args.place c.set_of.result (box_of c.args.self.now c.restrict.new.frame)
 restricted_of c =
     subst (λ (f : Frame). IsRestricted (box_of c.args.self.now f) c.args.place c.set_of.result (box_of c.args.self.now c.restrict.new.frame))
     c.loop-source.invariant.same (c.restrict.ensures.restricted c.if-restrict.true)
 
-alone_of : (c : Then-cut) → HasAlone (box_of c.args.self.now c.restrict.new.frame) c.args.place c.in-Some.source
+alone_of : (c : Then-restrict) → HasAlone (box_of c.args.self.now c.restrict.new.frame) c.args.place c.in-Some.source
 alone_of c =
     restricted_alone (box_of c.args.self.now c.args.frame.now) (box_of c.args.self.now c.restrict.new.frame) c.args.place c.in-Some.source c.set_of.result
     (λ w. (c.set_of.ensures w).0) (restricted_of c) c.requires.place (c.restrict.ensures.fixpoint c.if-restrict.true).exact.contained.some
 
 pub returns-then-is_promising-clause-alone : goal.returns-then-is_promising-clause-alone
-returns-then-is_promising-clause-alone c _ = (c.in-Some.source, alone_of (goal.at.returns-then-is_promising-clause-alone c).Then-cut)
+returns-then-is_promising-clause-alone c _ = (c.in-Some.source, alone_of (goal.at.returns-then-is_promising-clause-alone c).Then-restrict)
 
 pub returns-then-is_promising-clause-lowest : goal.returns-then-is_promising-clause-lowest
 returns-then-is_promising-clause-lowest c _ =
