@@ -1,6 +1,6 @@
 -- The first entry of a class, and what it says of the report and of the verdict.
 use Rattle.std.proofs.Common.{◌≡◌, ◌⊎◌, inl, inr, ℕ, ◌<◌, ◌≤◌, Bool, true, false, Option, Some, None, List, length, get_or, refl, sym, ap, subst, ◌∙◌, arith}
-use Rattle.std.specs.Prelude.{IsTrue, MatchOption, is_some, not}
+use Rattle.std.specs.Prelude.{IsTrue, is_some, not}
 use Rattle.std.proofs.lemmas.Bool.{cases_lt, false≢true, cases_Bool}
 use Rattle.std.proofs.lemmas.Option.{slice_get-get_or, slice_get_within, get_or_from_slice_get}
 use Rattle.lit_syntax.specs.Syntax.{Litmus}
@@ -11,17 +11,12 @@ use Rattle.lit_valid.specs.declared.class.Class.TheVariants.{Met, Unmet}
 use Rattle.lit_valid.specs.Class.{is_of_class}
 use Rattle.lit_valid.specs.Gives.{Gives, HasLeastOrder}
 use Rattle.lit_search.specs.Report.{Entry, Report, HasEntry, IsEntry, IsReport, in_range}
-use Rattle.lit_search.specs.FirstOfClass.{HasNoneOf}
 use Rattle.lit_search.proofs.Reports.{one_order}
-use Rattle.jslit.specs.QuickAnswer.{IsFirstEntry}
+use Rattle.jslit.specs.QuickAnswer.{IsFirst, IsFirstEntry}
 use Rattle.lit_report.specs.Verdict.{IsVerdict, verdict_of}
 
 abbrev all_of : Litmus → ℕ → Bool
 all_of t = in_range 0 (length (choices_of t))
-
--- the first entry of a class, or that no choice has such an execution
-abbrev IsFirst : Litmus → Class → Option Entry → Type 0
-IsFirst t class first = MatchOption first (HasNoneOf t class (all_of t)) (IsFirstEntry t class)
 
 same_entry : (a b : Entry) → a.outcome ≡ b.outcome → a.choice ≡ b.choice → a.order ≡ b.order → a ≡ b
 same_entry a b outcome choice order =

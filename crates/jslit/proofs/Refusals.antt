@@ -12,7 +12,7 @@ use Rattle.lit_paths.specs.declared.limits.TheConstants.{ACCESS_LIMIT, CHOICE_LI
 use Rattle.jslit.specs.declared.fault.RunFault.{RunFault}
 use Rattle.jslit.specs.declared.fault.RunFault.TheVariants as faults
 use Rattle.jslit.specs.Answer.{IsFaultOn}
-use Rattle.jslit.specs.Devices.{OfInputText}
+use Rattle.jslit.specs.Devices.{IsInputText}
 use Rattle.jslit.specs.Internal.Answering.{IsOfTextOrWriting, IsOfWriting}
 
 -- a test within the limits is refused for none of them
@@ -23,10 +23,10 @@ not_refused t few_events few_paths few_choices plan_faults.TooManyPaths (few, ma
 not_refused t few_events few_paths few_choices plan_faults.TooManyChoices (few, fewer, many) = absurd (omega (arith, few_choices, many))
 not_refused t few_events few_paths few_choices plan_faults.OutOfMemory refused = refused
 
--- what holds of each text holds of the one that is told
-pub of_any_text : (remaining : Option (List ℕ)) (Holds : List ℕ → Type 0) → ((text : List ℕ) → Holds text) → OfInputText remaining Holds
-of_any_text None Holds holds = record { text = []; is_input = tt; holds = holds [] }
-of_any_text (Some bytes) Holds holds = record { text = take (TEXT_LIMIT + 1) bytes; is_input = refl; holds = holds (take (TEXT_LIMIT + 1) bytes) }
+-- an input has a text
+pub some_text : (remaining : Option (List ℕ)) → (text : List ℕ) × IsInputText remaining text
+some_text None = ([], tt)
+some_text (Some bytes) = (take (TEXT_LIMIT + 1) bytes, refl)
 
 -- a fault of writing says nothing of the text
 pub writing_on : {X : Type 0} (r : Result X RunFault) (text : List ℕ) → IfErr r IsOfWriting → IfErr r (IsFaultOn text)

@@ -1,11 +1,10 @@
 -- What the program's status says.
-use Rattle.std.proofs.Common.{◌≡◌, inl, inr, ℕ, List, [], Option, refl}
+use Rattle.std.proofs.Common.{◌≡◌, inl, inr, ℕ, List, [], Option, refl, subst, sym}
 use Rattle.std.proofs.lemmas.List.{append-nil}
-use Rattle.std.specs.Io.KnownBytes.{Appends}
 use Rattle.lit_report.specs.Writing.{AppendsBeginning}
 use Rattle.jslit.specs.declared.fault.RunFault.{RunFault}
 use Rattle.jslit.specs.declared.fault.RunFault.TheVariants as faults
-use Rattle.jslit.specs.Answer.{IsCheckStatus, status_of}
+use Rattle.jslit.specs.Answer.{Begins, HasGrown, IsCheckStatus, status_of}
 
 -- no fault gives the status of a report
 pub never_zero : (fault : RunFault) → status_of fault ≡ 0 → ⊥
@@ -34,9 +33,13 @@ failed_device faults.OutOfMemory A is input output = absurd cc
 failed_device faults.InputFailed A is input output = input refl
 failed_device faults.OutputFailed A is input output = output refl
 
--- all that was written is a beginning of it
-pub whole_is_beginning : (a b : Option (List ℕ)) (bytes : List ℕ) → Appends a b bytes → AppendsBeginning a b bytes
-whole_is_beginning a b bytes grew = record { front = bytes; rest = []; parts = append-nil bytes; appended = grew }
+-- a beginning of an answer was written
+pub has_begun : (Is : List ℕ → Type 0) (old new : Option (List ℕ)) (answer : List ℕ) → Is answer → AppendsBeginning old new answer → HasGrown (Begins Is) old new
+has_begun Is old new answer is some = record { answer = some.front; on = (some.rest, subst Is (sym some.parts) is); written = some.appended }
+
+-- all of an answer is a beginning of it
+pub whole_begins : (Is : List ℕ → Type 0) (old new : Option (List ℕ)) → HasGrown Is old new → HasGrown (Begins Is) old new
+whole_begins Is old new whole = record { answer = whole.answer; on = ([], subst Is (sym (append-nil whole.answer)) whole.on); written = whole.written }
 
 -- each fault has a status of checking a text
 pub check_status_of : (fault : RunFault) (status : ℕ) → status ≡ status_of fault → IsCheckStatus status

@@ -16,12 +16,13 @@ use Rattle.lit_search.specs.FirstOfClass.{IsFirstOf}
 use Rattle.lit_valid.specs.Gives.{Gives}
 use Rattle.lit_search.specs.Report.{Report, IsReport, entry_at, in_range}
 use Rattle.lit_report.specs.declared.verdict.Verdict.{Verdict}
-use Rattle.jslit.specs.Answer.{HasBegun, HasReported, IsAnswerOf, IsComplete, IsQuickReportOf, IsReportOf}
+use Rattle.jslit.specs.Answer.{HasBegun, HasReported, IsAnswerOf, IsAnswerOn, IsComplete, IsQuickReportOf, IsReportOf}
 use Rattle.lit_report.specs.ReportText.{quick_text, report_text}
 use Rattle.lit_report.specs.Verdict.{IsVerdict, verdict_of}
 use Rattle.jslit.specs.Internal.Answering.{HasWritten, HasWrittenSome, IsFirstFound}
 use Rattle.lit_report.specs.Internal.FirstEntry.{entry_of_option}
 use Rattle.jslit.proofs.QuickAnswers.{quick_judged}
+use Rattle.jslit.proofs.Statuses.{has_begun}
 use Rattle.lit_report.proofs.ReportEntries.{among_all}
 
 abbrev OneOutcome : Type 0
@@ -75,16 +76,13 @@ report_is t report verdict reported complete judged = record { report = report; 
 pub begun_on : (quick : Bool) (text : List ℕ) (t plan : Litmus) (old new : Option (List ℕ)) → Spells text t
     → ((fault : PlanFault) → ¬ IsRefusal t fault) → plan ≡ t
     → HasWrittenSome quick plan old new → HasBegun quick text old new
-begun_on quick text t plan old new spelled planned same some = record {
-  answer = some.answer;
-  on = record {
-    test = t;
-    spelled = spelled;
-    planned = planned;
-    of_test = subst (λ (u : Litmus). IsAnswerOf quick u some.answer) same some.of_test;
-  };
-  begun = some.begun;
-}
+begun_on quick text t plan old new spelled planned same some =
+    has_begun (IsAnswerOn quick text) old new some.answer (record {
+      test = t;
+      spelled = spelled;
+      planned = planned;
+      of_test = subst (λ (u : Litmus). IsAnswerOf quick u some.answer) same some.of_test;
+    }) some.begun
 
 -- and the answer that was written is one of the text's
 pub reported_on : {X E : Type 0} (r : Result X E) (quick : Bool) (text : List ℕ) (t plan : Litmus) (old new : Option (List ℕ))

@@ -1,5 +1,5 @@
 -- What a run answers for the bytes of a text (this project's own).
-use Rattle.std.specs.Prelude.{◌≡◌, ◌⊎◌, ℕ, Bool, true, false, Option, is_some, MatchOption, List, [], length, map, Contains}
+use Rattle.std.specs.Prelude.{◌≡◌, ◌⊎◌, ℕ, Bool, true, false, Option, is_some, List, [], ◌++◌, length, map, Contains}
 use Rattle.std.specs.Io.KnownBytes.{Appends}
 use Rattle.lit_syntax.specs.Syntax.{Litmus}
 use Rattle.lit_read.specs.Faults.{IsFirstFault}
@@ -15,8 +15,7 @@ use Rattle.jslit.specs.declared.fault.RunFault.{RunFault}
 use Rattle.jslit.specs.declared.fault.RunFault.TheVariants as faults
 use Rattle.lit_report.specs.declared.verdict.Verdict.{Verdict}
 use Rattle.lit_report.specs.Writing.{AppendsBeginning}
-use Rattle.jslit.specs.QuickAnswer.{IsFirstEntry}
-use Rattle.lit_search.specs.FirstOfClass.{HasNoneOf}
+use Rattle.jslit.specs.QuickAnswer.{IsFirst}
 use Rattle.lit_report.specs.ReportText.{report_text, quick_text}
 use Rattle.lit_report.specs.RefusalText.{plan_fault_line, read_fault_line, unknown_agent_line}
 use Rattle.lit_report.specs.Verdict.{IsVerdict, verdict_of}
@@ -39,8 +38,8 @@ pub record IsReportOf (test : Litmus) (answer : List ℕ) : Type 0 where
 pub record IsQuickReportOf (test : Litmus) (answer : List ℕ) : Type 0 where
   pub met : Option Entry
   pub unmet : Option Entry
-  pub first_met : MatchOption met (HasNoneOf test Met (in_range 0 (length (choices_of test)))) (IsFirstEntry test Met)
-  pub first_unmet : MatchOption unmet (HasNoneOf test Unmet (in_range 0 (length (choices_of test)))) (IsFirstEntry test Unmet)
+  pub first_met : IsFirst test Met met
+  pub first_unmet : IsFirst test Unmet unmet
   pub judged : (report : Report) → IsReport test (in_range 0 (length (choices_of test))) report
       → IsVerdict test report (verdict_of (is_some met) (is_some unmet))
   pub is : answer ≡ quick_text test met unmet (verdict_of (is_some met) (is_some unmet))
@@ -72,11 +71,9 @@ pub record HasGrown (IsAnswer : List ℕ → Type 0) (old new : Option (List ℕ
   pub on : IsAnswer answer
   pub written : Appends old new answer
 
--- known bytes grew by a beginning of an answer of this kind
-pub record HasGrownSome (IsAnswer : List ℕ → Type 0) (old new : Option (List ℕ)) : Type 0 where
-  pub answer : List ℕ
-  pub on : IsAnswer answer
-  pub begun : AppendsBeginning old new answer
+-- these bytes are a beginning of an answer of this kind
+abbrev pub Begins : (List ℕ → Type 0) → List ℕ → Type 0
+Begins IsAnswer front = (rest : List ℕ) × IsAnswer (front ++ rest)
 
 -- known bytes grew by a report on the text, quick or whole
 abbrev pub HasReported : (quick : Bool) → (text : List ℕ) → (old new : Option (List ℕ)) → Type 0
@@ -84,7 +81,7 @@ HasReported quick text old new = HasGrown (IsAnswerOn quick text) old new
 
 -- known bytes grew by a beginning of a report on the text, quick or whole
 abbrev pub HasBegun : (quick : Bool) → (text : List ℕ) → (old new : Option (List ℕ)) → Type 0
-HasBegun quick text old new = HasGrownSome (IsAnswerOn quick text) old new
+HasBegun quick text old new = HasGrown (Begins (IsAnswerOn quick text)) old new
 
 -- the status that the program gives for a fault
 abbrev pub status_of : RunFault → ℕ

@@ -7,7 +7,7 @@ use Rattle.lit_interleave.specs.Interleaving.{interleaved}
 use Rattle.lit_search.specs.Report.{Entry, Report}
 use Rattle.jslit.specs.declared.fault.RunFault.{RunFault}
 use Rattle.jslit.specs.declared.fault.RunFault.TheVariants as faults
-use Rattle.jslit.specs.Answer.{HasGrown, HasGrownSome}
+use Rattle.jslit.specs.Answer.{Begins, HasGrown}
 use Rattle.lit_report.specs.ReportText.{interleaving_text}
 use Rattle.jslit.specs.Schedule.{NamesAgents, NamesNoAgents}
 
@@ -46,4 +46,4 @@ HasInterleaved schedule text old new = HasGrown (IsInterleavingOn schedule text)
 
 -- known bytes grew by a beginning of it
 abbrev pub HasInterleavedSome : (schedule text : List ℕ) → (old new : Option (List ℕ)) → Type 0
-HasInterleavedSome schedule text old new = HasGrownSome (IsInterleavingOn schedule text) old new
+HasInterleavedSome schedule text old new = HasGrown (Begins (IsInterleavingOn schedule text)) old new

@@ -195,7 +195,7 @@ pub fn check_schedule<R: Read, W: Write, E: Write>(
     finish(output, errors, ran)
 }
 
-/// Flushes what a run wrote, or prints why it wrote nothing. Gives the status (decision 74).
+/// Flushes what a run wrote, or prints why it wrote nothing. Gives the status.
 fn finish<W: Write, E: Write>(
     output: &mut Counted<W>,
     errors: &mut E,

@@ -11,6 +11,7 @@ use Rattle.jslit.specs.Answer.{status_of}
 use Rattle.jslit.specs.Devices.{IsReadFailure}
 use Rattle.jslit.specs.declared.fault.RunFault.{RunFault}
 use Rattle.jslit.specs.declared.fault.RunFault.TheVariants as faults
+use Rattle.jslit.proofs.Statuses.{has_begun}
 use Rattle.jslit_why.specs.Printed.{HasBegun, HasExplained}
 
 module _ {W : Type 0} (contents : W → Option (List ℕ)) (text : List ℕ) (asked : Asked) (answer : Answer) (found : Bool) (bytes : List ℕ)
@@ -30,11 +31,8 @@ module _ {W : Type 0} (contents : W → Option (List ℕ)) (text : List ℕ) (as
   pub begun : AppendsBeginning (contents (device_of old)) (contents (device_of new)) bytes → HasBegun contents text asked old new
   begun some = (
     found,
-    record {
-      answer = answer.text.items;
-      on = reason;
-      begun = subst (AppendsBeginning (contents (device_of old)) (contents (device_of new))) is some;
-    },
+    has_begun (IsReasonOn text asked found) (contents (device_of old)) (contents (device_of new)) answer.text.items reason
+        (subst (AppendsBeginning (contents (device_of old)) (contents (device_of new))) is some),
   )
 
 -- a failed read has status 3 or 4

@@ -1,4 +1,4 @@
-//! How a run works, and which report it writes.
+//! How a run works, and which report it writes (decision 192).
 
 ghost use Rattle.std.specs.Prelude.{◌≤◌, ◌<◌};
 ghost use Rattle.lit_desk.specs.declared.limits.TheConstants.{MOST_SEATS};

@@ -1,5 +1,5 @@
 -- Walks, paths, candidates, sources, combinations and choices as predicates, for proofs (this project's own). The lists
--- of `Path` and `Choice` have exactly these, as laws say.
+-- of `Path` and `Choice` have exactly these, as laws say (decision 190).
 use Rattle.std.specs.Prelude.{◌≡◌, ◌≢◌, ◌⊎◌, ℕ, ◌<◌, Bool, true, false, IsTrue}
 use Rattle.std.specs.Prelude.{List, [], ◌∷◌, ◌++◌, length, map, Some, slice_get}
 use Rattle.std.specs.Cmp.Lexicographic.{slice_cmp}

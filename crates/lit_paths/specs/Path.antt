@@ -18,7 +18,8 @@ first_byte window index = if is_data_view window then index else index * window_
 abbrev pub payload_of : ℕ → List ℕ
 payload_of value = value % 256 ∷ value / 256 % 256 ∷ value / 65536 % 256 ∷ value / 16777216 % 256 ∷ []
 
--- What an access makes; one that stores nothing has the value 0. Atomics make sequentially consistent events, other accesses unordered ones.
+-- What an access makes; one that stores nothing has the value 0. Atomics make sequentially consistent events, other accesses
+-- unordered ones.
 abbrev pub access_event : Kind → (owner place : ℕ) → Window → (index value : ℕ) → (atomic : Bool) → Event
 access_event kind owner place window index value atomic = record {
   kind = kind;

@@ -40,7 +40,12 @@ pub record TellsRuns (owner : ℕ) (body : Statements) (path : Path) (told : Pat
   pub run : (values : List ℕ) → length values ≡ length (read_places path.events)
       → list_all (is_true_of (chosen_on path.events values)) told.tests ≡ true
       → IsRun owner body
-      (record { values = values; decisions = path.decisions; events = path.events; registers = map (value_on (chosen_on path.events values)) told.last })
+      (record {
+        values = values;
+        decisions = path.decisions;
+        events = path.events;
+        registers = map (value_on (chosen_on path.events values)) told.last;
+      })
   pub one_each : (run : Run) → IsRun owner body run → run_path run ≡ path → length run.values ≡ length (read_places path.events)
   pub true_of : (run : Run) → IsRun owner body run → run_path run ≡ path
       → list_all (is_true_of (chosen_on path.events run.values)) told.tests ≡ true

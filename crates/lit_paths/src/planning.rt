@@ -1,5 +1,4 @@
-//! The plan of a test: its choices by number, with their combinations and sources. `plan_builder` builds it
-//! (decision 14).
+//! The plan of a test: its choices by number, with their combinations and sources. `plan_builder` builds it.
 
 pub(crate) mod agent_paths;
 pub(crate) mod plan_builder;

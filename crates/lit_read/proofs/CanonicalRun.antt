@@ -1,13 +1,13 @@
 -- The canonical text of a test, line by line, and any text with the forms of a test.
 use Rattle.std.proofs.Common.{◌≡◌, ℕ, zero, suc, ◌+◌, ◌<◌, ◌≤◌, Bool, true, false, not, eqb, ◌&&◌, List, [], ◌∷◌, ◌++◌, length, get_or, map, take, drop, Option, Some, None, Ok, refl, ap, sym, subst, ◌∙◌, append_assoc, arith}
-use Rattle.std.specs.List.{list_all, prefix_len}
+use Rattle.std.specs.List.{AllZip, list_all, prefix_len}
 use Rattle.std.proofs.lemmas.Bool.Decides.{nat_tests}
 use Rattle.std.proofs.lemmas.List.{take_at, drop_at, append-nil}
 use Rattle.lit_syntax.specs.declared.limits.TheConstants.{TEXT_LIMIT, BLOCK_LIMIT, REGISTERS, COMPARED_LIMIT}
 use Rattle.lit_syntax.specs.Syntax.{Statement, Statements, Load, Store, Exchange, CompareExchange, If, End, Then, IsStatementIn, AreStatementsIn, Agent, Litmus, IsLitmus}
 use Rattle.lit_read.specs.Lines.{lines_of, lines_from, ended_lines}
 use Rattle.lit_syntax.specs.Tokens.{IsWord}
-use Rattle.lit_syntax.specs.Forms.{Form, Blank, TestLine, BytesLine, AgentLine, StatementLine, IfLine, ElseLine, EndLine, CheckLine, spelled, IsForm, HasForm, HaveForms, without_blanks}
+use Rattle.lit_syntax.specs.Forms.{Form, Blank, TestLine, BytesLine, AgentLine, StatementLine, IfLine, ElseLine, EndLine, CheckLine, spelled, IsForm, HasForm, without_blanks}
 use Rattle.lit_read.specs.Faults.{is_allowed}
 use Rattle.lit_syntax.specs.Written.{is_shallow}
 use Rattle.lit_read.specs.Spelling.{written_value, AreFormsOf, Spells}
@@ -124,8 +124,7 @@ line_has f shown = record { tokens = spelled f; cut = shown.clean.cut; spelling 
 line_is : (f : Form) → IsShown f → IsLine (form_text f) f
 line_is f shown = record { allowed = all_weaker is_printable is_allowed byte_allowed (form_text f) shown.clean.printable; has = line_has f shown }
 
-lines_have : (fs : List Form) → AreShown fs → HaveForms (map form_text fs) fs
-unfolding HaveForms
+lines_have : (fs : List Form) → AreShown fs → AllZip HasForm (map form_text fs) fs
 lines_have [] shown = tt
 lines_have (f ∷ fs) shown = (line_has f shown.0, lines_have fs shown.1)
 
@@ -150,8 +149,8 @@ module _ (t : Litmus) (is : IsLitmus t) where
   unfolding canonical
   canonical_lines = lines_back (TestLine t.name) (BytesLine t.bytes ∷ (agents_forms t.agents ++ CheckLine (written_of t.agents t.check) ∷ [])) (test_shown t is)
 
-  pub canonical_have : HaveForms (lines_of (canonical t)) (canonical_forms t)
-  canonical_have = subst (λ (ls : List (List ℕ)). HaveForms ls (canonical_forms t)) (sym canonical_lines) (lines_have (canonical_forms t) (test_shown t is))
+  pub canonical_have : AllZip HasForm (lines_of (canonical t)) (canonical_forms t)
+  canonical_have = subst (λ (ls : List (List ℕ)). AllZip HasForm ls (canonical_forms t)) (sym canonical_lines) (lines_have (canonical_forms t) (test_shown t is))
 
 -- ---- the reader
 
@@ -164,8 +163,7 @@ shown_lines : (fs : List Form) → AreShown fs → AreLines (map form_text fs) f
 shown_lines [] shown = refl
 shown_lines (f ∷ fs) shown = (f, fs, refl, line_is f shown.0, shown_lines fs shown.1)
 
-allowed_lines : (ls : List (List ℕ)) (fs : List Form) → HaveForms ls fs → list_all (λ l. list_all is_allowed l) ls ≡ true → AreLines ls fs
-unfolding HaveForms
+allowed_lines : (ls : List (List ℕ)) (fs : List Form) → AllZip HasForm ls fs → list_all (λ l. list_all is_allowed l) ls ≡ true → AreLines ls fs
 allowed_lines [] [] have allowed = refl
 allowed_lines [] (f ∷ fs) have allowed = absurd have
 allowed_lines (l ∷ ls) [] have allowed = absurd have
@@ -212,7 +210,7 @@ blanks_reached (ElseLine ∷ fs) s t h = (h.0, h.1, blanks_reached fs h.0 t h.2)
 blanks_reached (EndLine ∷ fs) s t h = (h.0, h.1, blanks_reached fs h.0 t h.2)
 blanks_reached (CheckLine w ∷ fs) s t h = (h.0, h.1, blanks_reached fs h.0 t h.2)
 
-pub forms_spell : (text : List ℕ) (forms : List Form) (t : Litmus) → IsLitmus t → length text ≤ TEXT_LIMIT → list_all is_allowed text ≡ true → HaveForms (lines_of text) forms → (are : AreFormsOf (without_blanks forms) t) → is_shallow are.check ≡ true
+pub forms_spell : (text : List ℕ) (forms : List Form) (t : Litmus) → IsLitmus t → length text ≤ TEXT_LIMIT → list_all is_allowed text ≡ true → AllZip HasForm (lines_of text) forms → (are : AreFormsOf (without_blanks forms) t) → is_shallow are.check ≡ true
     → Spells text t
 forms_spell text forms t is short allowed have are shallow =
     spells text forms t short (allowed_lines (lines_of text) forms have (lines_pass is_allowed text allowed)) (blanks_reached forms Empty (Whole t) (test_reached t (without_blanks forms) is are shallow))
@@ -229,7 +227,7 @@ held before (f ∷ fs) s t shown holds reached =
 pub its_forms : (t : Litmus) → IsLitmus t → AreFormsOf (without_blanks (canonical_forms t)) t
 its_forms t is = held [] (canonical_forms t) Empty (Whole t) (test_shown t is) refl (canonical_reached t is)
 
-pub only_its_forms : (t u : Litmus) (forms : List Form) → IsLitmus t → HaveForms (lines_of (canonical t)) forms → AreFormsOf (without_blanks forms) u → u ≡ t
+pub only_its_forms : (t u : Litmus) (forms : List Form) → IsLitmus t → AllZip HasForm (lines_of (canonical t)) forms → AreFormsOf (without_blanks forms) u → u ≡ t
 only_its_forms t u forms is have other =
     let same : forms ≡ canonical_forms t = forms_once (lines_of (canonical t)) forms (canonical_forms t) have (canonical_have t is) in
     one_test_of (without_blanks forms) u t other (subst (λ (fs : List Form). AreFormsOf (without_blanks fs) t) (sym same) (its_forms t is))

@@ -1,6 +1,6 @@
 -- How far a text is read, and what that says in the end.
 use Rattle.std.proofs.Common.{◌≡◌, ◌≢◌, ℕ, suc, ◌+◌, ◌-◌, ◌<◌, ◌≤◌, Bool, true, false, cond, eqb, List, [], ◌∷◌, ◌++◌, length, get_or, take, ◌⊎◌, inl, inr, refl, sym, ap, subst, ◌∙◌, Option, Some, None, Ok, Err, arith, true≢false, append_assoc}
-use Rattle.std.specs.List.{list_all, list_any}
+use Rattle.std.specs.List.{AllZip, list_all, list_any}
 use Rattle.std.proofs.lemmas.Bool.{cases_lt}
 use Rattle.std.proofs.lemmas.List.{append-nil, length-append, take_at}
 use Rattle.lit_read.specs.declared.fault.ReadKind.{ReadKind}
@@ -8,7 +8,7 @@ use Rattle.lit_read.specs.declared.fault.ReadKind.TheVariants.{TooLong, NotAscii
 use Rattle.lit_syntax.specs.declared.limits.TheConstants.{TEXT_LIMIT}
 use Rattle.lit_syntax.specs.Syntax.{Litmus}
 use Rattle.lit_read.specs.Lines.{lines_of, lines_from, onto_first}
-use Rattle.lit_syntax.specs.Forms.{Form, HasForm, HaveForms, without_blanks}
+use Rattle.lit_syntax.specs.Forms.{Form, HasForm, without_blanks}
 use Rattle.lit_read.specs.Faults.{number_of, is_allowed, is_check_line, is_faulty, HasLineFault, HasFault, IsFirstFault, IsReadFault}
 use Rattle.lit_read.specs.Spelling.{Spells}
 use Rattle.lit_read.specs.Internal.State.{State, Empty, Whole, IsState, IsUnfinished}
@@ -137,13 +137,13 @@ pub record Progress (text : List ℕ) (number : ℕ) (s : State) (rest : Option 
   pub before : List Form
   pub split : lines_of text ≡ done ++ lines_from rest
   pub count : length done ≡ number
-  pub have : HaveForms done before
+  pub have : AllZip HasForm done before
   pub holds : Holds (without_blanks before) s
   pub sound : IsState s
   pub clean : (k : ReadKind) (n : ℕ) → k ≢ MissingPart → HasFault text k n → number < n
 
 pub progress_begins : (text : List ℕ) → length text ≤ TEXT_LIMIT → Progress text 0 Empty (Some text)
-unfolding HaveForms IsState
+unfolding IsState
 progress_begins text short = record { short = short; done = []; before = []; split = refl; count = refl; have = tt; holds = refl; sound = tt; clean = λ k n ne h. fault_line text k n h }
 
 module _ (text left line : List ℕ) (number : ℕ) (s : State) (after : Option (List ℕ)) (p : Progress text number s (Some left)) (is : lines_of left ≡ line ∷ lines_from after) where
@@ -166,14 +166,14 @@ module _ (text left line : List ℕ) (number : ℕ) (s : State) (after : Option 
   -- a fault of this line, with the forms so far
   fault_here : (k : ReadKind) → LineFault text k (number + 1) → HasLineFault k p.before line
   fault_here k f =
-      let have : HaveForms p.done f.before = subst (λ (ls : List (List ℕ)). HaveForms ls f.before) lines_above f.above.2 in
+      let have : AllZip HasForm p.done f.before = subst (λ (ls : List (List ℕ)). AllZip HasForm ls f.before) lines_above f.above.2 in
       let same : f.before ≡ p.before = forms_once p.done f.before p.before have p.have in
       subst (λ (fs : List Form). HasLineFault k fs line) same (subst (λ (l : List ℕ). HasLineFault k f.before l) line_here f.fault)
 
   here_fault : (k : ReadKind) → HasLineFault k p.before line → LineFault text k (number + 1)
   here_fault k h = record {
     before = p.before;
-    above = (omega arith, lines_many, subst (λ (ls : List (List ℕ)). HaveForms ls p.before) (sym lines_above) p.have);
+    above = (omega arith, lines_many, subst (λ (ls : List (List ℕ)). AllZip HasForm ls p.before) (sym lines_above) p.have);
     fault = subst (λ (l : List ℕ). HasLineFault k p.before l) (sym line_here) h;
   }
 
@@ -264,13 +264,13 @@ all_done text number s p = p.split ∙ append-nil p.done
 
 pub progress_spells : (text : List ℕ) (number : ℕ) (t : Litmus) → Progress text number (Whole t) None → Spells text t
 progress_spells text number t p =
-    let lines : HaveForms (lines_of text) p.before = subst (λ (ls : List (List ℕ)). HaveForms ls p.before) (sym (all_done text number (Whole t) p)) p.have in
+    let lines : AllZip HasForm (lines_of text) p.before = subst (λ (ls : List (List ℕ)). AllZip HasForm ls p.before) (sym (all_done text number (Whole t) p)) p.have in
     record { faultless = λ k n h. none k n h (which text k n h); forms = p.before; lines = lines; are = p.holds }
   where
     none : (k : ReadKind) (n : ℕ) → HasFault text k n → Which text k n → ⊥
     none k n h (Long long e) = omega (arith, p.short)
     none k n h (Ended e n_is forms have unchecked) =
-        let lines : HaveForms p.done forms = subst (λ (ls : List (List ℕ)). HaveForms ls forms) (all_done text number (Whole t) p) have in
+        let lines : AllZip HasForm p.done forms = subst (λ (ls : List (List ℕ)). AllZip HasForm ls forms) (all_done text number (Whole t) p) have in
         let same : forms ≡ p.before = forms_once p.done forms p.before lines p.have in
         true≢false (sym (is_checked t (without_blanks p.before) p.holds) ∙ checks_left p.before ∙ ap (list_any is_check_line) (sym same) ∙ unchecked)
     none k n h (Line ne f) = omega (arith, p.clean k n ne h, f.above.1, ap length (all_done text number (Whole t) p), p.count)
@@ -279,7 +279,7 @@ missing_there : (text : List ℕ) (number : ℕ) (s : State) → (p : Progress t
 unfolding HasFault
 missing_there text number s p u =
     let done = all_done text number s p in
-    (sym (ap length done ∙ p.count), (p.before, subst (λ (ls : List (List ℕ)). HaveForms ls p.before) (sym done) p.have, sym (checks_left p.before) ∙ not_checked s (without_blanks p.before) p.holds u))
+    (sym (ap length done ∙ p.count), (p.before, subst (λ (ls : List (List ℕ)). AllZip HasForm ls p.before) (sym done) p.have, sym (checks_left p.before) ∙ not_checked s (without_blanks p.before) p.holds u))
 
 pub progress_ends : (text : List ℕ) (number : ℕ) (s : State) → Progress text number s None → IsUnfinished s → IsFirstFault text MissingPart number
 progress_ends text number s p u = record {

@@ -1,12 +1,12 @@
 -- A text line by line: what is read is spelled, and what is refused is its first fault.
 use Rattle.std.proofs.Common.{◌≡◌, ◌≢◌, ℕ, ◌-◌, ◌<◌, ◌≤◌, true, false, IsTrue, List, [], ◌∷◌, ◌++◌, length, take, get_or, refl, sym, ap, subst, ◌∙◌, true≢false}
 use Rattle.std.specs.Prelude.{codes}
-use Rattle.std.specs.List.{list_any}
+use Rattle.std.specs.List.{AllZip, list_any}
 use Rattle.lit_read.specs.Internal.Marks.{IsSpelling}
 use Rattle.lit_read.specs.declared.fault.ReadKind.{ReadKind}
 use Rattle.lit_read.specs.declared.fault.ReadKind.TheVariants.{TooLong, NotAscii, Syntax, Misplaced, BlockSize, TooManyAgents, DuplicateAgent, LiteralRange, OutOfBlock, UnknownName, TooDeep, MissingPart, OutOfMemory}
 use Rattle.lit_syntax.specs.Tokens.{Token, Word, CutsInto, IsWord}
-use Rattle.lit_syntax.specs.Forms.{Form, Blank, TestLine, BytesLine, AgentLine, StatementLine, IfLine, ElseLine, EndLine, CheckLine, spelled, HasForm, HaveForms, without_blanks}
+use Rattle.lit_syntax.specs.Forms.{Form, Blank, TestLine, BytesLine, AgentLine, StatementLine, IfLine, ElseLine, EndLine, CheckLine, spelled, HasForm, without_blanks}
 use Rattle.lit_read.specs.Faults.{is_check_line, is_faulty, HasLineFault, HasFault}
 use Rattle.lit_read.specs.Lines.{lines_of}
 use Rattle.lit_syntax.specs.declared.limits.TheConstants.{TEXT_LIMIT}
@@ -48,8 +48,7 @@ has_words line (CheckLine w) h = tt
 
 -- ---- forms of lines
 
-pub forms_once : (ls : List (List ℕ)) (fs gs : List Form) → HaveForms ls fs → HaveForms ls gs → fs ≡ gs
-unfolding HaveForms
+pub forms_once : (ls : List (List ℕ)) (fs gs : List Form) → AllZip HasForm ls fs → AllZip HasForm ls gs → fs ≡ gs
 forms_once [] [] [] a b = refl
 forms_once [] [] (g ∷ gs) a b = absurd b
 forms_once [] (f ∷ fs) gs a b = absurd a
@@ -60,8 +59,7 @@ forms_once (l ∷ ls) (f ∷ fs) (g ∷ gs) a b =
     let others : fs ≡ gs = forms_once ls fs gs a.1 b.1 in
     cc
 
-pub forms_added : (ls : List (List ℕ)) (fs : List Form) (l : List ℕ) (f : Form) → HaveForms ls fs → HasForm l f → HaveForms (ls ++ l ∷ []) (fs ++ f ∷ [])
-unfolding HaveForms
+pub forms_added : (ls : List (List ℕ)) (fs : List Form) (l : List ℕ) (f : Form) → AllZip HasForm ls fs → HasForm l f → AllZip HasForm (ls ++ l ∷ []) (fs ++ f ∷ [])
 forms_added [] [] l f a b = (b, tt)
 forms_added [] (g ∷ gs) l f a b = absurd a
 forms_added (k ∷ ls) [] l f a b = absurd a
@@ -152,7 +150,7 @@ made_fault OutOfMemory before line f is h = (f, is.has, h)
 
 -- the lines with lesser numbers have these forms
 abbrev pub AreFormsBefore : List ℕ → ℕ → List Form → Type 0
-AreFormsBefore text line before = (1 ≤ line) × (line ≤ length (lines_of text)) × HaveForms (take (line - 1) (lines_of text)) before
+AreFormsBefore text line before = (1 ≤ line) × (line ≤ length (lines_of text)) × AllZip HasForm (take (line - 1) (lines_of text)) before
 
 -- a fault of one line, which its number is that of
 pub record LineFault (text : List ℕ) (k : ReadKind) (n : ℕ) : Type 0 where
@@ -163,7 +161,7 @@ pub record LineFault (text : List ℕ) (k : ReadKind) (n : ℕ) : Type 0 where
 -- which of a text's faults it is
 pub data Which (text : List ℕ) (k : ReadKind) (n : ℕ) : Type 0 where
   Long : TEXT_LIMIT < length text → n ≡ 1 → Which text k n
-  Ended : k ≡ MissingPart → n ≡ length (lines_of text) → (forms : List Form) → HaveForms (lines_of text) forms → list_any is_check_line forms ≡ false → Which text k n
+  Ended : k ≡ MissingPart → n ≡ length (lines_of text) → (forms : List Form) → AllZip HasForm (lines_of text) forms → list_any is_check_line forms ≡ false → Which text k n
   Line : k ≢ MissingPart → LineFault text k n → Which text k n
 
 pub which : (text : List ℕ) (k : ReadKind) (n : ℕ) → HasFault text k n → Which text k n

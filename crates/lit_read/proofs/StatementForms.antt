@@ -1,6 +1,6 @@
 -- The forms with which the statements of a test begin, and the lines that have them.
 use Rattle.std.proofs.Common.{◌≡◌, ℕ, zero, suc, ◌+◌, ◌-◌, ◌<◌, Bool, true, false, cond, List, [], ◌∷◌, ◌++◌, length, map, take, get_or, slice_get, IsTrue, ◌↔◌, Some, inl, inr, refl, sym, ap, subst, ◌∙◌, arith, append_assoc, true≢false}
-use Rattle.std.specs.List.{filter}
+use Rattle.std.specs.List.{AllZip, filter}
 use Rattle.std.proofs.lemmas.List.{append-nil, length-append, length-map}
 use Rattle.std.proofs.lemmas.List.Elements.{filter-append}
 use Rattle.std.proofs.lemmas.Option.{get_or_from_slice_get, slice_get-get_or}
@@ -8,7 +8,7 @@ use Rattle.lit_syntax.specs.Syntax.{Statement, Statements, Load, Store, Exchange
 use Rattle.lit_read.specs.Internal.Marks.{IsSpelling}
 use Rattle.lit_read.specs.Lines.{lines_of}
 use Rattle.lit_syntax.specs.Tokens.{Token, CutsInto}
-use Rattle.lit_syntax.specs.Forms.{Form, Blank, TestLine, BytesLine, AgentLine, StatementLine, IfLine, ElseLine, EndLine, CheckLine, HasForm, HaveForms, without_blanks}
+use Rattle.lit_syntax.specs.Forms.{Form, Blank, TestLine, BytesLine, AgentLine, StatementLine, IfLine, ElseLine, EndLine, CheckLine, HasForm, without_blanks}
 use Rattle.lit_read.specs.Structure.{IsStatement, AreStatements, AreAgents}
 use Rattle.lit_read.proofs.SpellLemmas.{AreElse, else_lines}
 use Rattle.lit_read.specs.Spelling.{AreFormsOf, Spells}
@@ -79,9 +79,8 @@ begins_nothing line none = (λ no. absurd (true≢false (sym no)), λ begun. abs
 
 -- ---- their lines
 
-have_forms : (text : List ℕ) (n : ℕ) (done ls : List (List ℕ)) (fs : List Form) (lines : List ℕ) → lines_of text ≡ done ++ ls → length done ≡ n → HaveForms ls fs
-    → ListsAfter text n lines → HaveForms (map (line_of text) lines) (begun fs)
-unfolding HaveForms
+have_forms : (text : List ℕ) (n : ℕ) (done ls : List (List ℕ)) (fs : List Form) (lines : List ℕ) → lines_of text ≡ done ++ ls → length done ≡ n → AllZip HasForm ls fs
+    → ListsAfter text n lines → AllZip HasForm (map (line_of text) lines) (begun fs)
 have_forms text n done [] [] lines split count have l =
     let none : lines ≡ [] = none_left text n lines (omega (arith, ap length split, length-append done [], count)) l in
     rw none tt
@@ -101,19 +100,19 @@ have_forms text n done (line ∷ ls) (f ∷ fs) lines split count have l = by (b
     begun_not : begins_statement f ≡ false → BeginsStatement line → ⊥
     begun_not e b = true≢false (sym b.begins ∙ ap begins_statement (form_once line b.form f b.has have.0) ∙ e)
 
-    by : (x : Bool) → begins_statement f ≡ x → ((rest : List ℕ) → ListsAfter text (n + 1) rest → HaveForms (map (line_of text) rest) (begun fs))
-        → HaveForms (map (line_of text) lines) (cond x (f ∷ begun fs) (begun fs))
+    by : (x : Bool) → begins_statement f ≡ x → ((rest : List ℕ) → ListsAfter text (n + 1) rest → AllZip HasForm (map (line_of text) rest) (begun fs))
+        → AllZip HasForm (map (line_of text) lines) (cond x (f ∷ begun fs) (begun fs))
     by false e others = others lines (without text n lines (not_begun_here text n line listed (begun_not e)) l)
     by true e others =
         let here = begun_here text n line listed (record { form = f; has = have.0; begins = e }) in
         let first = first_left text n lines here l in
         let line_is : line_of text (n + 1) ≡ line = get_or_from_slice_get (lines_of text) ((n + 1) - 1) line [] listed in
-        subst (λ (xs : List ℕ). HaveForms (map (line_of text) xs) (f ∷ begun fs)) (sym first.1)
+        subst (λ (xs : List ℕ). AllZip HasForm (map (line_of text) xs) (f ∷ begun fs)) (sym first.1)
         (subst (λ (x : List ℕ). HasForm x f) (sym line_is) have.0, others first.0 first.2)
 
-pub lines_have_forms : (text : List ℕ) (t : Litmus) (lines : List ℕ) → Spells text t → ListsStatementLines text lines → HaveForms (map (line_of text) lines) (forms_begun t)
+pub lines_have_forms : (text : List ℕ) (t : Litmus) (lines : List ℕ) → Spells text t → ListsStatementLines text lines → AllZip HasForm (map (line_of text) lines) (forms_begun t)
 lines_have_forms text t lines spells l =
-    subst (λ (fs : List Form). HaveForms (map (line_of text) lines) fs) (sym (blanks_begin spells.forms) ∙ test_begins (without_blanks spells.forms) t spells.are)
+    subst (λ (fs : List Form). AllZip HasForm (map (line_of text) lines) fs) (sym (blanks_begin spells.forms) ∙ test_begins (without_blanks spells.forms) t spells.are)
     (have_forms text 0 [] (lines_of text) spells.forms lines refl refl spells.lines (after_start text lines l))
 
 -- ---- how many there are
@@ -122,8 +121,7 @@ agents_counted : (agents : List Agent) → length (agents_begun agents) ≡ agen
 agents_counted [] = refl
 agents_counted (a ∷ others) = omega (arith, length-append (statements_begun a.body) (agents_begun others), statements_counted a.body, agents_counted others)
 
-same_length : (ls : List (List ℕ)) (fs : List Form) → HaveForms ls fs → length ls ≡ length fs
-unfolding HaveForms
+same_length : (ls : List (List ℕ)) (fs : List Form) → AllZip HasForm ls fs → length ls ≡ length fs
 same_length [] [] h = refl
 same_length [] (f ∷ fs) h = absurd h
 same_length (l ∷ ls) [] h = absurd h
@@ -141,8 +139,7 @@ record IsListed (text lines : List ℕ) (place : ℕ) (form : Form) : Type 0 whe
   pub listed : slice_get lines place ≡ Some n
   pub has : HasForm (line_of text n) form
 
-listed_at : (text lines : List ℕ) (fs : List Form) (place : ℕ) (form : Form) → HaveForms (map (line_of text) lines) fs → slice_get fs place ≡ Some form → IsListed text lines place form
-unfolding HaveForms
+listed_at : (text lines : List ℕ) (fs : List Form) (place : ℕ) (form : Form) → AllZip HasForm (map (line_of text) lines) fs → slice_get fs place ≡ Some form → IsListed text lines place form
 listed_at text [] [] place form have e = absurd cc
 listed_at text [] (f ∷ fs) place form have e = absurd have
 listed_at text (n ∷ lines) [] place form have e = absurd have

@@ -1,7 +1,8 @@
 -- The canonical text of a test, as bytes, form by form (this project's own; decision 7).
 use Rattle.std.specs.Prelude.{ℕ, Bool, true, false, List, [], ◌∷◌, ◌++◌, map, codes}
 use Rattle.std.specs.Fmt.{decimal}
-use Rattle.lit_syntax.specs.Syntax.{Window, DataView8, DataView16, DataView32, Statement, Load, Store, Exchange, CompareExchange, If, Litmus}
+use Rattle.lit_syntax.specs.Syntax.{Window, DataView8, DataView16, DataView32, Statement, Load, Store}
+use Rattle.lit_syntax.specs.Syntax.{Exchange, CompareExchange, If, Litmus}
 use Rattle.lit_read.specs.Lines.{ended_lines}
 use Rattle.lit_syntax.specs.Written.{Comparison, Operand, Compared, Negated, Grouped, Conjunction, Lone, Both, Written, Single, Either}
 use Rattle.lit_syntax.specs.Forms.{Form, Blank, TestLine, BytesLine, AgentLine, StatementLine}

@@ -1,7 +1,7 @@
 -- The faults of a text (this project's own). The first faulty line decides, and of one line's faults the lowest number.
 use Rattle.std.specs.Prelude.{◌≡◌, ◌⊎◌, ℕ, ◌-◌, ◌<◌, ◌≤◌, ◌==◌, ◌&&◌, ◌||◌, nat_lt, nat_le, Bool, true, false, IsTrue}
 use Rattle.std.specs.Prelude.{if◌then◌else◌, List, [], ◌∷◌, ◌++◌, length, slice_index_or, take, not, fold, Option, Some, None, is_none}
-use Rattle.std.specs.List.{list_any, list_all}
+use Rattle.std.specs.List.{AllZip, list_any, list_all}
 use Rattle.std.specs.Option.{unwrap_or}
 use Rattle.std.specs.Str.{bytes_eq}
 use Rattle.lit_read.specs.declared.fault.ReadKind.{ReadKind}
@@ -15,7 +15,7 @@ use Rattle.lit_syntax.specs.Tokens.{begins_with}
 use Rattle.lit_read.specs.Lines.{lines_of}
 use Rattle.lit_syntax.specs.Written.{written_depths}
 use Rattle.lit_syntax.specs.Forms.{Form, Blank, TestLine, BytesLine, AgentLine, StatementLine, IfLine}
-use Rattle.lit_syntax.specs.Forms.{ElseLine, EndLine, CheckLine, HasForm, HaveForms, without_blanks}
+use Rattle.lit_syntax.specs.Forms.{ElseLine, EndLine, CheckLine, HasForm, without_blanks}
 
 -- the numbers of the faults
 abbrev pub number_of : ReadKind → ℕ
@@ -63,14 +63,9 @@ names_of [] = []
 names_of (AgentLine name ∷ fs) = name ∷ names_of fs
 names_of (f ∷ fs) = names_of fs
 
--- whether a list has no member
-abbrev pub is_empty : {A : Type 0} → List A → Bool
-is_empty [] = true
-is_empty (x ∷ xs) = false
-
 -- whether an agent has begun, and no check line has come
 abbrev pub is_begun : List Form → Bool
-is_begun given = not (is_empty (names_of given)) && not (list_any is_check_line given)
+is_begun given = not (length (names_of given) == 0) && not (list_any is_check_line given)
 
 -- The `if`s that are open behind a form, the innermost first, from those before it: whether the else line has come.
 abbrev pub open_behind : List Bool → Form → List Bool
@@ -101,14 +96,14 @@ agent_writes name reg (f ∷ fs) = agent_writes name reg fs
 -- whether a form cannot stand behind these; an else line stands where the innermost open `if` has none yet
 abbrev pub is_misplaced : List Form → Form → Bool
 is_misplaced given Blank = false
-is_misplaced given (TestLine name) = not (is_empty given)
+is_misplaced given (TestLine name) = not (length given == 0)
 is_misplaced given (BytesLine bytes) = not (ends_in_test given)
-is_misplaced given (AgentLine name) = is_none (block_of given) || list_any is_check_line given || not (is_empty (open_ifs given))
+is_misplaced given (AgentLine name) = is_none (block_of given) || list_any is_check_line given || not (length (open_ifs given) == 0)
 is_misplaced given (StatementLine s) = not (is_begun given)
 is_misplaced given (IfLine reg equal value) = not (is_begun given)
 is_misplaced given ElseLine = not (is_begun given) || not (begins_with not (open_ifs given))
-is_misplaced given EndLine = not (is_begun given) || is_empty (open_ifs given)
-is_misplaced given (CheckLine w) = not (is_begun given) || not (is_empty (open_ifs given))
+is_misplaced given EndLine = not (is_begun given) || (length (open_ifs given) == 0)
+is_misplaced given (CheckLine w) = not (is_begun given) || not (length (open_ifs given) == 0)
 
 -- whether none of the forms is misplaced behind these and those of them that come before it
 abbrev pub none_misplaced : List Form → List Form → Bool
@@ -158,10 +153,10 @@ HasLineFault kind before line = (form : Form) × HasForm line form × IsTrue (is
 unfoldable pub HasFault : List ℕ → ReadKind → ℕ → Type 0
 HasFault text TooLong line = (TEXT_LIMIT < length text) × (line ≡ 1)
 HasFault text MissingPart line =
-    (line ≡ length (lines_of text)) × ((forms : List Form) × HaveForms (lines_of text) forms × (list_any is_check_line forms ≡ false))
+    (line ≡ length (lines_of text)) × ((forms : List Form) × AllZip HasForm (lines_of text) forms × (list_any is_check_line forms ≡ false))
 HasFault text OutOfMemory line = ⊥
 HasFault text kind line =
-    (before : List Form) × (1 ≤ line) × (line ≤ length (lines_of text)) × HaveForms (take (line - 1) (lines_of text)) before
+    (before : List Form) × (1 ≤ line) × (line ≤ length (lines_of text)) × AllZip HasForm (take (line - 1) (lines_of text)) before
     × HasLineFault kind before (slice_index_or (lines_of text) (line - 1) [])
 
 -- The fault is there, no fault stands on an earlier line, and none with a lower number on its own.

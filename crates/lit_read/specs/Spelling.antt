@@ -1,11 +1,12 @@
 -- Which test a text spells (this project's own).
 use Rattle.std.specs.Prelude.{◌≡◌, ℕ, ◌+◌, if◌then◌else◌, List, [], ◌∷◌, ◌++◌}
+use Rattle.std.specs.List.{AllZip}
 use Rattle.std.specs.Str.{bytes_eq}
 use Rattle.lit_read.specs.declared.fault.ReadKind.{ReadKind}
 use Rattle.lit_syntax.specs.Syntax.{Condition, Conditions, Any, All, Not, Is, NoMore, Also, Agent, Litmus}
 use Rattle.lit_read.specs.Lines.{lines_of}
 use Rattle.lit_syntax.specs.Written.{Operand, Compared, Negated, Grouped, Conjunction, Lone, Both, Written, Single, Either}
-use Rattle.lit_syntax.specs.Forms.{Form, TestLine, BytesLine, CheckLine, HaveForms, without_blanks}
+use Rattle.lit_syntax.specs.Forms.{Form, TestLine, BytesLine, CheckLine, HasForm, without_blanks}
 use Rattle.lit_read.specs.Structure.{AreAgents}
 use Rattle.lit_read.specs.Faults.{HasFault}
 
@@ -53,5 +54,5 @@ pub record AreFormsOf (forms : List Form) (t : Litmus) : Type 0 where
 pub record Spells (text : List ℕ) (t : Litmus) : Type 0 where
   pub faultless : (kind : ReadKind) (line : ℕ) → ¬ HasFault text kind line
   pub forms : List Form
-  pub lines : HaveForms (lines_of text) forms
+  pub lines : AllZip HasForm (lines_of text) forms
   pub are : AreFormsOf (without_blanks forms) t

@@ -2,14 +2,14 @@
 //! each answer of `read` comes exactly where it is due.
 
 ghost use Rattle.std.specs.Prelude.{◌≡◌, ◌<◌, ◌≤◌, ◌⊎◌, ◌∷◌, ◌++◌, [], ℕ, Bool, List, length, map, true};
-ghost use Rattle.std.specs.List.{list_all, AllByRecursion};
+ghost use Rattle.std.specs.List.{AllZip, list_all, AllByRecursion};
 ghost use Rattle.lit_read.specs.declared.fault.ReadKind.{ReadKind};
 ghost use Rattle.lit_syntax.specs.declared.limits.TheConstants.{TEXT_LIMIT};
 ghost use Rattle.lit_syntax.specs.Syntax.{Litmus, IsLitmus, Statements, agent_of};
 ghost use Rattle.lit_read.specs.Lines.{lines_of, ended_lines, is_whole_line};
 ghost use Rattle.lit_syntax.specs.Tokens.{Token, CutsInto};
 ghost use Rattle.lit_syntax.specs.Written.{written_tokens, is_shallow};
-ghost use Rattle.lit_syntax.specs.Forms.{Form, IsForm, HasForm, HaveForms, without_blanks};
+ghost use Rattle.lit_syntax.specs.Forms.{Form, IsForm, HasForm, without_blanks};
 ghost use Rattle.lit_read.specs.Structure.{is_body_line, LeaveOpen};
 ghost use Rattle.lit_read.specs.Faults.{HasFault, IsFirstFault, is_allowed, is_begun, none_misplaced, open_ifs};
 ghost use Rattle.lit_read.specs.Spelling.{Spells, AreFormsOf};
@@ -75,7 +75,7 @@ pub fn differ_by_nothing_else()
 /// without the blank ones are those of the test, and no comparison of its check line stands too deep.
 pub fn spells_where_it_can()
     ensures { (text : List ℕ) (forms : List Form) (t : Litmus) → IsLitmus t → length text ≤ TEXT_LIMIT → list_all is_allowed text ≡ true
-        → HaveForms (lines_of text) forms → (are : AreFormsOf (without_blanks forms) t) → is_shallow are.check ≡ true → Spells text t }
+        → AllZip HasForm (lines_of text) forms → (are : AreFormsOf (without_blanks forms) t) → is_shallow are.check ≡ true → Spells text t }
 {}
 
 /// A test that a text spells is within the limits and rules of a test.
@@ -101,10 +101,10 @@ pub fn each_text_is_told()
 
 /// The lines of a test's canonical text have its canonical forms. So they have forms of that test, and of no other.
 pub fn has_canonical_text()
-    ensures lines { (t : Litmus) → IsLitmus t → HaveForms (lines_of (canonical t)) (canonical_forms t) }
+    ensures lines { (t : Litmus) → IsLitmus t → AllZip HasForm (lines_of (canonical t)) (canonical_forms t) }
     ensures its { (t : Litmus) → IsLitmus t
-        → (forms : List Form) × HaveForms (lines_of (canonical t)) forms × AreFormsOf (without_blanks forms) t }
-    ensures only { (t u : Litmus) (forms : List Form) → IsLitmus t → HaveForms (lines_of (canonical t)) forms
+        → (forms : List Form) × AllZip HasForm (lines_of (canonical t)) forms × AreFormsOf (without_blanks forms) t }
+    ensures only { (t u : Litmus) (forms : List Form) → IsLitmus t → AllZip HasForm (lines_of (canonical t)) forms
         → AreFormsOf (without_blanks forms) u → u ≡ t }
 {}
 
@@ -117,7 +117,7 @@ pub fn spells_its_test()
 /// written: as many, with their first forms, and agent after agent.
 pub fn statements_have_lines()
     ensures forms { (text : List ℕ) (t : Litmus) (lines : List ℕ) → Spells text t → ListsStatementLines text lines
-        → HaveForms (map (line_of text) lines) (forms_begun t) }
+        → AllZip HasForm (map (line_of text) lines) (forms_begun t) }
     ensures count { (text : List ℕ) (t : Litmus) (lines : List ℕ) → Spells text t → ListsStatementLines text lines
         → length lines ≡ agents_count t.agents }
     ensures each { (text : List ℕ) (t : Litmus) (lines : List ℕ) (agent k : ℕ) → Spells text t → ListsStatementLines text lines

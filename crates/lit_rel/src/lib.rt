@@ -21,7 +21,7 @@ pub use given::reads::can_read_whole;
 pub use given::relations::can_synchronize;
 pub use given::values::payload_at;
 pub use part::Part;
-pub use part::false_guards::has_false_guard;
+pub use part::false_guards::{has_false_guard, tested_read};
 pub use part::fixed_steps::unsourced_order;
 pub use part::guarded_bytes::is_source_refused;
 pub use rows::Rows;

@@ -1,6 +1,7 @@
 -- The events of a choice are those of its combination, and their owners are agents of the test.
 use Rattle.std.proofs.Common.{◌≡◌, ℕ, zero, suc, ◌+◌, ◌<◌, Bool, true, false, cond, List, [], ◌∷◌, length, map, Some, refl, sym, ap, subst, ◌∙◌, arith}
-use Rattle.std.specs.Prelude.{All, IfSome, slice_get}
+use Rattle.std.specs.Prelude.{All, IfSome, find, slice_get}
+use Rattle.std.specs.Option.{unwrap_or}
 use Rattle.std.specs.List.{AllByRecursion, flat_map, range_with_len}
 use Rattle.std.specs.Cmp.Lexicographic.{slice_cmp}
 use Rattle.std.specs.Ordering.{nat_cmp, is_eq}
@@ -14,10 +15,11 @@ use Rattle.lit_paths.specs.Event.{init_event, init_events}
 use Rattle.lit_paths.specs.Path.{Path, Step, LoadMet, StoreMet, ExchangeMet, CompareExchangeMet, IfMet, compare_exchange_event, events_on}
 use Rattle.lit_paths.specs.Run.{Run, run_path}
 use Rattle.lit_paths.specs.Choice.{Choice, choices_of, combinations_of, events_of}
-use Rattle.lit_paths.specs.Members.{ListsCombinations}
+use Rattle.lit_paths.specs.Members.{IsChoice, ListsCombinations}
 use Rattle.lit_paths.specs.Execution.{Execution, execution_events, execution_choice, IsCandidateExecution}
 use Rattle.lit_paths.specs.Plan.{HasSources, IsOfCombination, combination_at, events_in}
-use Rattle.lit_report.specs.ChoiceEvents.{paths_with, choice_at, choice_events}
+use Rattle.lit_report.specs.ChoiceEvents.{choice_at, choice_events}
+use Rattle.lit_paths.proofs.RunPaths.{runs-on_paths}
 use Rattle.lit_paths.proofs.Rising.{slice_cmp-same, nat_cmp-same}
 use Rattle.lit_syntax.proofs.ListLemmas.{all_both}
 use Rattle.lit_report.proofs.EntryFacts.{choice_at-is}
@@ -29,25 +31,30 @@ decisions_of paths = map (λ path. path.decisions) paths
 abbrev compared : List (List ℕ) → List (List ℕ) → Ordering
 compared a b = slice_cmp (slice_cmp nat_cmp) a b
 
+abbrev is_chosen : List (List ℕ) → List Path → Bool
+is_chosen decisions paths = is_eq (compared (decisions_of paths) decisions)
+
 compared-same : (ds : List (List ℕ)) → compared ds ds ≡ Equal
 compared-same ds = slice_cmp-same (slice_cmp nat_cmp) (slice_cmp-same nat_cmp nat_cmp-same) ds
 
 found_with : (combinations : List (List Path)) (c : ℕ) (paths : List Path) → slice_get combinations c ≡ Some paths
-    → ((i : ℕ) (a : List Path) → i < c → slice_get combinations i ≡ Some a → compared (decisions_of a) (decisions_of paths) ≡ Less) → paths_with (decisions_of paths) combinations ≡ paths
+    → ((i : ℕ) (a : List Path) → i < c → slice_get combinations i ≡ Some a → compared (decisions_of a) (decisions_of paths) ≡ Less)
+    → find (is_chosen (decisions_of paths)) combinations ≡ Some paths
 found_with [] c paths at earlier = absurd (let e = at in cc)
 found_with (p ∷ ps) zero paths at earlier =
     let same : p ≡ paths = (let e : Some p ≡ Some paths = at in cc) in
-    ap (λ (o : Ordering). cond (is_eq o) p (paths_with (decisions_of paths) ps)) (ap (λ (q : List Path). compared (decisions_of q) (decisions_of paths)) same ∙ compared-same (decisions_of paths)) ∙ same
+    ap (λ (o : Ordering). cond (is_eq o) (Some p) (find (is_chosen (decisions_of paths)) ps))
+        (ap (λ (q : List Path). compared (decisions_of q) (decisions_of paths)) same ∙ compared-same (decisions_of paths)) ∙ ap Some same
 found_with (p ∷ ps) (suc c) paths at earlier =
-    ap (λ (o : Ordering). cond (is_eq o) p (paths_with (decisions_of paths) ps)) (earlier 0 p (omega arith) refl)
+    ap (λ (o : Ordering). cond (is_eq o) (Some p) (find (is_chosen (decisions_of paths)) ps)) (earlier 0 p (omega arith) refl)
     ∙ found_with ps c paths at (λ i a less here. earlier (suc i) a (omega (arith, less)) here)
 
 pub choice_events-are : (t : Litmus) (n c : ℕ) → ListsCombinations t → (of : IsOfCombination t n c) → choice_events t of.choice ≡ events_in t c
 choice_events-are t n c lists of =
     let paths = combination_at t c in
     let at : slice_get (combinations_of t) c ≡ Some paths = slice_get-get_or (combinations_of t) c [] of.known in
-    ap (λ ds. events_of t.bytes (map (λ (path : Path). path.events) (paths_with ds (combinations_of t)))) (sym of.decided)
-    ∙ ap (λ ps. events_of t.bytes (map (λ (path : Path). path.events) ps)) (found_with (combinations_of t) c paths at (λ i a less here. lists.rising i c a paths less here at))
+    ap (λ ds. events_of t.bytes (map (λ (path : Path). path.events) (unwrap_or (find (is_chosen ds) (combinations_of t)) []))) (sym of.decided)
+    ∙ ap (λ found. events_of t.bytes (map (λ (path : Path). path.events) (unwrap_or found []))) (found_with (combinations_of t) c paths at (λ i a less here. lists.rising i c a paths less here at))
 
 maps : (f : Path → List Event) (runs : List Run) → map f (map run_path runs) ≡ map (λ run. f (run_path run)) runs
 maps f [] = refl
@@ -57,6 +64,19 @@ maps f (r ∷ rs) = ap (λ ess. f (run_path r) ∷ ess) (maps f rs)
 pub executed : (t : Litmus) (n c : ℕ) → IsOfCombination t n c → (x : Execution) → IsCandidateExecution t x → slice_get (choices_of t) n ≡ Some (execution_choice x) → execution_events t x ≡ events_in t c
 executed t n c of x candidate at =
     ap (events_of t.bytes) (sym (maps (λ path. path.events) x.runs) ∙ ap (map (λ (path : Path). path.events)) (of.on_paths x candidate at))
+
+-- and so has each candidate execution that has the choice
+pub chosen_events : (t : Litmus) → ListsCombinations t → (x : Execution) → IsCandidateExecution t x → IsChoice t (execution_choice x)
+    → choice_events t (execution_choice x) ≡ execution_events t x
+chosen_events t lists x candidate chosen =
+    let paths = chosen.paths in
+    let at = lists.all paths chosen.combined in
+    let on : map run_path x.runs ≡ paths = runs-on_paths t paths x chosen.combined candidate chosen.decided in
+    ap (λ ds. events_of t.bytes (map (λ (path : Path). path.events) (unwrap_or (find (is_chosen ds) (combinations_of t)) []))) (sym chosen.decided)
+    ∙ ap (λ found. events_of t.bytes (map (λ (path : Path). path.events) (unwrap_or found [])))
+        (found_with (combinations_of t) at.0 paths at.1 (λ i a less here. lists.rising i at.0 a paths less here at.1))
+    ∙ ap (λ (ps : List Path). events_of t.bytes (map (λ (path : Path). path.events) ps)) (sym on)
+    ∙ ap (events_of t.bytes) (maps (λ path. path.events) x.runs)
 
 -- ---- the owners of events
 -- the event's owner, where it has one, is one of so many agents

@@ -9,7 +9,7 @@ use Rattle.lit_paths.specs.Event.{event_at}
 use Rattle.lit_paths.specs.ByteReads.{byte_reads}
 use Rattle.lit_paths.specs.Outcome.{names_of}
 use Rattle.lit_valid.specs.Entry.{Entry}
-use Rattle.lit_valid.specs.ValidExecution.{read_numbers}
+use Rattle.lit_valid.specs.ValidExecution.{read_numbers_from}
 use Rattle.lit_report.specs.ChoiceEvents.{choice_at, choice_events}
 
 -- bytes and then the end of the line
@@ -33,7 +33,7 @@ source_line t events read sources = line (codes "  from" ++ (codes " " ++ event_
 abbrev pub from_lines : Litmus → List Event → List ℕ → List ℕ
 from_lines t events sources =
     let sources_of : ℕ → List ℕ = λ read. map (λ p. p.1) (filter (λ p. p.0.0 == read) (zip (byte_reads events) sources)) in
-    flat_map (λ read. source_line t events (event_at events read) (sources_of read)) (read_numbers events)
+    flat_map (λ read. source_line t events (event_at events read) (sources_of read)) (read_numbers_from 0 events)
 
 -- the lines of the reads of choice n
 abbrev pub choice_lines : Litmus → ℕ → List ℕ

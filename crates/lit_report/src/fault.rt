@@ -1,4 +1,4 @@
-//! That a write failed.
+//! That a write failed (decision 191).
 
 use thiserror::Error;
 

@@ -18,6 +18,7 @@ mod entries;
 mod entry_cache;
 mod events;
 mod fault;
+pub mod laws;
 mod memory;
 mod pages;
 mod printer;

@@ -95,12 +95,6 @@ pub record HasForm (line : List ℕ) (form : Form) : Type 0 where
   pub cut : CutsInto line tokens
   pub spelling : (tokens ≡ spelled form) × IsForm form
 
--- the lines have these forms, one each
-unfoldable pub HaveForms : List (List ℕ) → List Form → Type 0
-HaveForms [] [] = Unit {0}
-HaveForms (l ∷ ls) (f ∷ fs) = HasForm l f × HaveForms ls fs
-HaveForms _ _ = ⊥
-
 -- the forms that say something
 abbrev pub without_blanks : List Form → List Form
 without_blanks [] = []

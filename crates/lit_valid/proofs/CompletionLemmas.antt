@@ -27,7 +27,7 @@ use Rattle.lit_rel.specs.ReadsFrom.{value_of}
 use Rattle.lit_rel.specs.TearFree.{HasTearFreeReads}
 use Rattle.lit_order.specs.MemoryOrder.{IsMemoryOrder}
 use Rattle.lit_valid.specs.Completion.{Completes, IsOnCombination}
-use Rattle.lit_valid.specs.ValidExecution.{IsValidExecution, read_numbers}
+use Rattle.lit_valid.specs.ValidExecution.{IsValidExecution, read_numbers_from}
 use Rattle.lit_valid.specs.Internal.GivenRuns.{AreGivenRuns, HasGivenRun, IsGivenRun}
 use Rattle.lit_valid.specs.Laws.{ChooseForEachRead, Laws}
 use Rattle.lit_valid.specs.PartOutcome.{part_outcome, observed_value}
@@ -55,7 +55,7 @@ module _ (part : PartModel) (x : Execution) (is : Completes part x) where
   its_runs : ChooseForEachRead → AreGivenRuns part.test part.combination x.sources x.runs
   its_runs choose =
       given_apart part.test part.combination x.runs is.on_paths x.sources choose is.valid.candidate.one_each is.valid.candidate.each
-      (subst (λ (es : List Event). flat_map (λ run. run.values) x.runs ≡ map (value_of es x.sources) (read_numbers es)) its_events is.valid.chosen_reads)
+      (subst (λ (es : List Event). flat_map (λ run. run.values) x.runs ≡ map (value_of es x.sources) (read_numbers_from 0 es)) its_events is.valid.chosen_reads)
 
   -- its memory-orders respect what the part has
   pub order_respected : GrowWithBytes → (order : List ℕ) → IsMemoryOrder (execution_events part.test x) x.sources order
@@ -246,7 +246,7 @@ module _ (part : PartModel) (entered : IsOnCombination part) (laws : Laws) (sour
       sourced = to_example (λ es. Contains (sources_of es) part.sources) ((sources_of-iff (part_events part) part.sources).1 sourced);
     };
     no_cycle = to_example (λ es. (e : ℕ) → ¬ HappensBefore es part.sources e e) no_cycle;
-    chosen_reads = to_example (λ es. flat_map (λ run. run.values) example.runs ≡ map (value_of es part.sources) (read_numbers es))
+    chosen_reads = to_example (λ es. flat_map (λ run. run.values) example.runs ≡ map (value_of es part.sources) (read_numbers_from 0 es))
         (given_together t c example.runs example_paths part.sources given);
     coherent_reads = to_example (λ es. HasCoherentReads es part.sources) coherent;
     tear_free_reads = to_example (λ es. HasTearFreeReads es part.sources) tear_free;

@@ -11,7 +11,7 @@ use Rattle.lit_paths.specs.Plan.{combination_at, events_in, first_event}
 use Rattle.lit_paths.specs.Refusal.{accesses_on}
 use Rattle.lit_paths.specs.Run.{Run, IsRun, run_path}
 use Rattle.lit_rel.specs.ReadsFrom.{value_of}
-use Rattle.lit_valid.specs.ValidExecution.{read_numbers, read_numbers_from}
+use Rattle.lit_valid.specs.ValidExecution.{read_numbers_from}
 use Rattle.lit_valid.specs.Laws.{ChooseForEachRead}
 use Rattle.lit_valid.specs.Internal.GivenRuns.{AreGivenRuns, path_at}
 use Rattle.lit_valid.proofs.Takings.{AreTaken, AreCounted, taken_apart, taken_together, taken_at, taken_each, counted_each, read_numbers-accesses}
@@ -41,12 +41,12 @@ module _ (t : Litmus) (c : ℕ) (runs : List Run) (on_paths : map run_path runs 
     value = value_of (events_in t c) sources
 
     -- the reads of all agents
-    reads_are : map value (read_numbers (events_in t c)) ≡ map value (read_numbers_from t.bytes (accesses_on (combination_at t c)))
+    reads_are : map value (read_numbers_from 0 (events_in t c)) ≡ map value (read_numbers_from t.bytes (accesses_on (combination_at t c)))
     reads_are = ap (map value) (read_numbers-accesses t.bytes (accesses_on (combination_at t c)))
 
     -- each run is given what its reads take, where all together are
     pub given_apart : ChooseForEachRead → length runs ≡ length t.agents → ((i : ℕ) (run : Run) → slice_get runs i ≡ Some run → IsRun i (agent_of t i).body run)
-        → flat_map (λ run. run.values) runs ≡ map value (read_numbers (events_in t c)) → AreGivenRuns t c sources runs
+        → flat_map (λ run. run.values) runs ≡ map value (read_numbers_from 0 (events_in t c)) → AreGivenRuns t c sources runs
     given_apart reads long are all =
         let counted : AreCounted value runs = counted_each value runs (λ i run at.
         reads i (agent_of t i).body run (are i run at)) in
@@ -63,7 +63,7 @@ module _ (t : Litmus) (c : ℕ) (runs : List Run) (on_paths : map run_path runs 
           };
         }
 
-    pub given_together : AreGivenRuns t c sources runs → flat_map (λ run. run.values) runs ≡ map value (read_numbers (events_in t c))
+    pub given_together : AreGivenRuns t c sources runs → flat_map (λ run. run.values) runs ≡ map value (read_numbers_from 0 (events_in t c))
     given_together given =
         taken_together value t.bytes runs (taken_each value t.bytes runs (λ i run at.
         (given.each i run at).given

@@ -8,7 +8,7 @@ use Rattle.lit_paths.specs.Event.{does_read, init_event, init_events}
 use Rattle.lit_paths.specs.Run.{Run, run_path}
 use Rattle.lit_paths.specs.Refusal.{accesses_on}
 use Rattle.lit_paths.specs.Told.{read_places}
-use Rattle.lit_valid.specs.ValidExecution.{read_numbers_from, read_numbers}
+use Rattle.lit_valid.specs.ValidExecution.{read_numbers_from}
 use Rattle.lit_paths.proofs.EventLists.{length-init_events}
 use Rattle.lit_valid.proofs.ObservedLemmas.{length-taken}
 
@@ -31,7 +31,7 @@ no_reads n low zero = refl
 no_reads n low (suc count) = no_reads (n + 1) (low + 1) count
 
 -- those of a block's events and then others are those of the others
-pub read_numbers-accesses : (bytes : ℕ) (accesses : List Event) → read_numbers (init_events bytes ++ accesses) ≡ read_numbers_from bytes accesses
+pub read_numbers-accesses : (bytes : ℕ) (accesses : List Event) → read_numbers_from 0 (init_events bytes ++ accesses) ≡ read_numbers_from bytes accesses
 read_numbers-accesses bytes accesses =
     read_numbers_from-append 0 (init_events bytes) accesses
     ∙ ap (λ (ns : List ℕ). ns ++ read_numbers_from (0 + length (init_events bytes)) accesses) (no_reads 0 0 bytes)

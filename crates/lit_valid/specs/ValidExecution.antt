@@ -11,20 +11,16 @@ use Rattle.lit_rel.specs.Coherent.{HasCoherentReads}
 use Rattle.lit_rel.specs.TearFree.{HasTearFreeReads}
 use Rattle.lit_order.specs.MemoryOrder.{IsMemoryOrder}
 
--- the numbers of the reads, rising, of the events from number n on
+-- the numbers of the reads, rising, among events of which the first has number n
 abbrev pub read_numbers_from : ℕ → List Event → List ℕ
 read_numbers_from n [] = []
 read_numbers_from n (e ∷ es) = if does_read e.kind then n ∷ read_numbers_from (n + 1) es else read_numbers_from (n + 1) es
-
--- the numbers of all reads, rising
-abbrev pub read_numbers : List Event → List ℕ
-read_numbers events = read_numbers_from 0 events
 
 -- Valid chosen reads (29.7.1): each value that an agent was given is the composed value of its read. The reading
 -- statements of the runs, agent after agent, are the reads by rising number.
 abbrev pub HasValidChosenReads : Litmus → Execution → Type 0
 HasValidChosenReads t x =
-    flat_map (λ run. run.values) x.runs ≡ map (value_of (execution_events t x) x.sources) (read_numbers (execution_events t x))
+    flat_map (λ run. run.values) x.runs ≡ map (value_of (execution_events t x) x.sources) (read_numbers_from 0 (execution_events t x))
 
 -- a valid execution (29.7.5)
 pub record IsValidExecution (t : Litmus) (x : Execution) : Type 0 where

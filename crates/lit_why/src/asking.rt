@@ -3,30 +3,19 @@
 ghost use Rattle.std.specs.Prelude.{◌≡◌, ◌<◌, length};
 ghost use Rattle.lit_paths.specs.Event.{event_at as event_of};
 ghost use Rattle.lit_syntax.specs.declared.limits.TheConstants.{REGISTERS};
-ghost use Rattle.lit_rel.specs.Broken.{number_on};
 ghost use Rattle.lit_valid.specs.PartOutcome.{observed_read};
 ghost use Rattle.lit_why.specs.Asked.{is_asked, is_named, is_tested, is_tested_by};
 ghost use Rattle.lit_why.specs.Attempts.{agree};
 
 use lit_paths::{Combination, Event, Plan, Tested, event_at};
-use lit_rel::payload_at;
-
-/// The number of the read whose value a guard compares, on a path whose first event has this number; `None` for a register
-/// that was not written.
-pub(crate) fn number_asked(guard: Tested, first: u8) -> Option<usize>
-    ensures { result ≡ number_on first guard.on }
-{
-    guard
-        .on
-        .map(|place| usize::from(first) + usize::from(place))
-}
+use lit_rel::{payload_at, tested_read};
 
 /// Whether one of these guards, on a path whose first event has this number, is on a read.
 fn guards_ask(guards: &[Tested], first: u8, read: usize) -> bool
     ensures { result ≡ is_tested_by guards.now first read }
 {
     for guard in guards {
-        if number_asked(*guard, first) == Some(read) {
+        if tested_read(*guard, first) == Some(read) {
             return true;
         }
     }

@@ -1,16 +1,14 @@
 -- The effect of writing the answer for a test.
-use Rattle.std.specs.Prelude.{Bool, Option, IfSome, MatchOption, List, ℕ, length}
+use Rattle.std.specs.Prelude.{Bool, Option, IfSome, List, ℕ}
 use Rattle.std.specs.Io.KnownBytes.{Appends}
 use Rattle.lit_syntax.specs.Syntax.{Litmus}
 use Rattle.lit_valid.specs.declared.class.Class.{Class}
-use Rattle.lit_search.specs.Report.{Report, in_range}
+use Rattle.lit_search.specs.Report.{Report}
 use Rattle.jslit.specs.declared.fault.RunFault.{RunFault}
 use Rattle.jslit.specs.declared.fault.RunFault.TheVariants as faults
 use Rattle.jslit.specs.Answer.{IsAnswerOf}
 use Rattle.lit_report.specs.Writing.{AppendsBeginning}
-use Rattle.jslit.specs.QuickAnswer.{IsFirstEntry}
-use Rattle.lit_paths.specs.Choice.{choices_of}
-use Rattle.lit_search.specs.FirstOfClass.{HasNoneOf}
+use Rattle.jslit.specs.QuickAnswer.{IsFirst}
 use Rattle.lit_report.specs.Internal.FirstEntry.{IsOnlyEntry, entry_of_option}
 
 -- known bytes grew by the answer for a test
@@ -46,4 +44,4 @@ IsOfTextOrWriting faults.OutputFailed = Unit {0}
 -- the report of the first choice of a class alone, if there is one
 pub record IsFirstFound (t : Litmus) (class : Class) (found : Option Report) : Type 0 where
   pub entry : IfSome found (IsOnlyEntry t)
-  pub first : MatchOption (entry_of_option found) (HasNoneOf t class (in_range 0 (length (choices_of t)))) (IsFirstEntry t class)
+  pub first : IsFirst t class (entry_of_option found)

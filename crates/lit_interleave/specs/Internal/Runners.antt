@@ -5,7 +5,8 @@ use Rattle.std.specs.Coded.{Coded, code_by, coded×, coded_ℕ, coded_list}
 use Rattle.std.proofs.Common.{refl}
 use Rattle.lit_syntax.specs.declared.syntax.Stmt.{Stmt}
 use Rattle.lit_syntax.specs.Litmus.{statement_of, statements_of}
-use Rattle.lit_syntax.specs.Syntax.{AreStatementsIn, IsStatementIn, Statement, Statements, Load, Store, Exchange, CompareExchange, If, End, Then}
+use Rattle.lit_syntax.specs.Syntax.{AreStatementsIn, IsStatementIn, Statement, Statements, Load, Store, Exchange}
+use Rattle.lit_syntax.specs.Syntax.{CompareExchange, If, End, Then}
 use Rattle.lit_syntax.specs.SyntaxCodes.{coded_statements}
 use Rattle.lit_paths.specs.Run.{compares}
 use Rattle.lit_interleave.specs.Interleaving.{Progress, from_access, joined_statements}

@@ -32,7 +32,8 @@ pub record CanStandNext (before : ℕ → ℕ → Type 0) (forbidden : ℕ → �
   pub whole : (w r : ℕ) → forbidden w r event → placed w → (r ≡ event) ⊎ placed r
 
 -- the least event below n that can stand next after the placed ones
-pub record IsNext (n : ℕ) (before : ℕ → ℕ → Type 0) (forbidden : ℕ → ℕ → ℕ → Type 0) (placed : ℕ → Type 0) (event : ℕ) : Type 0 where
+pub record IsNext (n : ℕ) (before : ℕ → ℕ → Type 0) (forbidden : ℕ → ℕ → ℕ → Type 0) (placed : ℕ → Type 0)
+    (event : ℕ) : Type 0 where
   pub known : event < n
   pub can : CanStandNext before forbidden placed event
   pub least : (e : ℕ) → e < event → ¬ CanStandNext before forbidden placed e

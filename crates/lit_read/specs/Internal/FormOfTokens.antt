@@ -7,7 +7,8 @@ use Rattle.lit_syntax.specs.declared.symbol.Symbol.{Symbol}
 use Rattle.lit_syntax.specs.declared.symbol.Symbol.TheVariants.{Same, Differs, And, Or, Gives, Not, OpenBracket, CloseBracket}
 use Rattle.lit_syntax.specs.declared.symbol.Symbol.TheVariants.{OpenParen, CloseParen, OpenBrace, CloseBrace, Comma, Dot}
 use Rattle.lit_syntax.specs.declared.limits.TheConstants.{REGISTERS}
-use Rattle.lit_syntax.specs.Syntax.{Window, Uint8, Uint16, Uint32, DataView8, DataView16, DataView32, Load, Store, Exchange, CompareExchange}
+use Rattle.lit_syntax.specs.Syntax.{Window, Uint8, Uint16, Uint32, DataView8, DataView16, DataView32}
+use Rattle.lit_syntax.specs.Syntax.{Load, Store, Exchange, CompareExchange}
 use Rattle.lit_syntax.specs.Tokens.{Token, Word, Number, Sign}
 use Rattle.lit_syntax.specs.Written.{Comparison}
 use Rattle.lit_syntax.specs.Forms.{Form, Blank, TestLine, BytesLine, AgentLine, StatementLine, IfLine, ElseLine, EndLine}

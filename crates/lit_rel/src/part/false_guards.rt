@@ -4,17 +4,17 @@ ghost use Rattle.std.specs.Prelude.{◌≡◌, ◌↔◌, ℕ, ◌<◌, ◌≤�
 ghost use Rattle.lit_paths.specs.declared.byte_reads.ByteRead.{ByteRead as Read};
 ghost use Rattle.lit_paths.specs.Plan.{IsWalkIn, events_in, walk_in};
 ghost use Rattle.lit_paths.specs.Run.{compares};
-ghost use Rattle.lit_rel.specs.Broken.{HasFalseGuard, HasFalseGuardOn, number_on as number_asked};
+ghost use Rattle.lit_rel.specs.Broken.{HasFalseGuard, HasFalseGuardOn, number_on};
 ghost use Rattle.lit_rel.specs.Internal.Given.{part_of};
 ghost use Rattle.lit_rel.specs.Internal.FalseGuards.{HasFalse};
 
 use crate::given::Given;
 use lit_paths::{ByteRead, Combination, Tested};
 
-/// The number of the read that a guard asks about, on a path whose first event has number `first`; `None` for a register
+/// The number of the read whose value a guard tests, on a path whose first event has number `first`; `None` for a register
 /// that was not written.
-pub(crate) fn number_on(test: Tested, first: u8) -> Option<usize>
-    ensures { result ≡ number_asked first test.on }
+pub fn tested_read(test: Tested, first: u8) -> Option<usize>
+    ensures { result ≡ number_on first test.on }
 {
     test.on.map(|place| usize::from(first) + usize::from(place))
 }
@@ -31,7 +31,7 @@ fn has_false(tests: &[Tested], first: u8, asked: Option<usize>, value: u32) -> b
     ensures { IsTrue result ↔ HasFalse tests.now first asked value }
 {
     for test in tests {
-        if number_on(*test, first) == asked && is_false(*test, value) {
+        if tested_read(*test, first) == asked && is_false(*test, value) {
             return true;
         }
     }

@@ -7,7 +7,7 @@ ghost use Rattle.lit_rel.specs.Internal.FalseGuards.{HasFalseByte};
 ghost use Rattle.lit_rel.specs.GuardedBytes.{HasFalseByteOn, IsFalseOfByte};
 
 use crate::given::values::{byte_from, payload_at};
-use crate::part::false_guards::number_on;
+use crate::part::false_guards::tested_read;
 use lit_paths::{ByteRead, Combination, Event, Tested, event_at};
 
 /// Whether a guard is false of whatever an event reads, if this byte of it has this value.
@@ -28,7 +28,7 @@ fn has_false_byte(tests: &[Tested], first: u8, event: &Event, at: ByteRead, valu
 {
     let asked = Some(usize::from(at.read));
     for test in tests {
-        if number_on(*test, first) == asked && is_false_of_byte(*test, event, at.byte, value) {
+        if tested_read(*test, first) == asked && is_false_of_byte(*test, event, at.byte, value) {
             return true;
         }
     }

@@ -27,7 +27,8 @@ pub record IsLeastFalse (part : PartModel) (agent place : ℕ) : Type 0 where
 -- why a byte is not coherent
 abbrev pub IsLeastCause : List Event → (ℕ → ℕ → Type 0) → (r b w : ℕ) → Incoherence → Type 0
 IsLeastCause events before r b w ReadFirst = before r w
-IsLeastCause events before r b w (HiddenBy v) = ¬ before r w × Hides events before r b w v × ((u : ℕ) → u < v → ¬ Hides events before r b w u)
+IsLeastCause events before r b w (HiddenBy v) =
+    ¬ before r w × Hides events before r b w v × ((u : ℕ) → u < v → ¬ Hides events before r b w u)
 
 -- the first byte read with its source that is not coherent
 pub record IsFirstIncoherent (events : List Event) (before : ℕ → ℕ → Type 0) (reads : List ByteRead) (sources : List ℕ) (place r b w : ℕ)

@@ -6,9 +6,8 @@ ghost use Rattle.lit_valid.specs.PartOutcome.{observed_value};
 ghost use Rattle.lit_why.specs.Internal.Refusing.{IsFirstFalse, IsLeastFalse};
 ghost use Rattle.lit_why.specs.Refusal.{HasNoFalse, IsFalseIn};
 
-use crate::asking::number_asked;
 use lit_paths::Tested;
-use lit_rel::Part;
+use lit_rel::{Part, tested_read};
 
 /// The value of a read by the part's sources, or 0 where there is none.
 fn value_asked(part: &Part<'_>, asked: Option<usize>) -> u32
@@ -28,7 +27,7 @@ fn value_asked(part: &Part<'_>, asked: Option<usize>) -> u32
 fn is_false(part: &Part<'_>, first: u8, guard: Tested) -> bool
     ensures { IsTrue result ↔ IsFalseIn part.now first guard }
 {
-    let value = value_asked(part, number_asked(guard, first));
+    let value = value_asked(part, tested_read(guard, first));
     (value == guard.value) != guard.equal
 }
 
