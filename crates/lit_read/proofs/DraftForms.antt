@@ -1,6 +1,6 @@
 -- The forms that a draft holds, and which form can follow them.
 use Rattle.std.proofs.Common.{◌≡◌, ℕ, ◌≤◌, Bool, true, false, not, cond, ◌||◌, ◌&&◌, List, [], ◌∷◌, ◌++◌, length, map, Option, Some, None, is_some, is_none, refl, ap, sym, subst, ◌∙◌, arith, append_assoc}
-use Rattle.std.specs.Prelude.{◌==◌, fold}
+use Rattle.std.specs.Prelude.{fold}
 use Rattle.std.specs.List.{list_any}
 use Rattle.std.specs.Str.{bytes_eq}
 use Rattle.std.proofs.lemmas.Bool.{or_parts}
@@ -11,7 +11,7 @@ use Rattle.lit_syntax.specs.Syntax.{Statements, Agent, Litmus, writes}
 use Rattle.lit_syntax.specs.Tokens.{begins_with}
 use Rattle.lit_syntax.specs.Forms.{Form, Blank, TestLine, BytesLine, AgentLine, StatementLine, IfLine, ElseLine, EndLine, CheckLine}
 use Rattle.lit_read.specs.Structure.{is_body_line, AreStatements, AreAgents}
-use Rattle.lit_read.specs.Faults.{is_check_line, is_begun, ends_in_test, open_behind, open_ifs, block_of, names_of, lines_write, agent_writes, is_misplaced}
+use Rattle.lit_read.specs.Faults.{is_check_line, is_begun, ends_in_test, open_behind, open_ifs, is_empty, block_of, names_of, lines_write, agent_writes, is_misplaced}
 use Rattle.lit_read.specs.Spelling.{AreFormsOf}
 use Rattle.lit_read.specs.Internal.State.{State, Empty, Named, Sized, Open, Whole, OpenIf, with_agent, body_named, IsUnfinished}
 use Rattle.lit_read.proofs.SpellLemmas.{all_joined, are_body_lines, statements_body, statements_open, line_writes, any_writes, statements_wrote, or_right_false}
@@ -223,7 +223,7 @@ names_open : (front own : List Form) (agents : List Agent) (agent : List ℕ) (i
 names_open front own agents agent ifs body a b =
     agents_names front (AgentLine agent ∷ own) agents a ∙ ap (λ (l : List (List ℕ)). names agents ++ agent ∷ l) (ap names_of (sym (append-nil own)) ∙ names_skip own [] (open_body own ifs body b))
 
-some_last : (xs : List (List ℕ)) (x : List ℕ) → (length (xs ++ x ∷ []) == 0) ≡ false
+some_last : (xs : List (List ℕ)) (x : List ℕ) → is_empty (xs ++ x ∷ []) ≡ false
 some_last [] x = refl
 some_last (y ∷ ys) x = refl
 
@@ -232,7 +232,7 @@ opened_is : (name : List ℕ) (bytes : ℕ) (front own : List Form) (agents : Li
 opened_is name bytes front own agents agent ifs body a b = record {
   block = refl;
   named = names_open front own agents agent ifs body a b;
-  begun = ap (λ (l : List (List ℕ)). not (length l == 0) && not (list_any is_check_line (front ++ AgentLine agent ∷ own))) (names_open front own agents agent ifs body a b)
+  begun = ap (λ (l : List (List ℕ)). not (is_empty l) && not (list_any is_check_line (front ++ AgentLine agent ∷ own))) (names_open front own agents agent ifs body a b)
       ∙ ap (λ (x : Bool). not x && not (list_any is_check_line (front ++ AgentLine agent ∷ own))) (some_last (names agents) agent) ∙ ap not (no_check front own agents agent ifs body a b);
   unchecked = no_check front own agents agent ifs body a b;
   ends = no_end (TestLine name) (BytesLine bytes ∷ (front ++ AgentLine agent ∷ own))
@@ -257,7 +257,7 @@ abbrev pub is_in_then_part : List OpenIf → Bool
 is_in_then_part ifs = begins_with not (flags ifs)
 
 abbrev pub has_none : List OpenIf → Bool
-has_none ifs = length (flags ifs) == 0
+has_none ifs = is_empty (flags ifs)
 
 abbrev pub can_follow : State → Form → Bool
 can_follow s Blank = true
@@ -326,7 +326,7 @@ ended_begun true = refl
 ended_begun false = refl
 
 not_begun : (given : List Form) (t : Litmus) → AreFormsOf given t → is_begun given ≡ false
-not_begun given t h = ap (λ (x : Bool). not (length (names_of given) == 0) && not x) (checked_is given t h) ∙ ended_begun (not (length (names_of given) == 0))
+not_begun given t h = ap (λ (x : Bool). not (is_empty (names_of given)) && not x) (checked_is given t h) ∙ ended_begun (not (is_empty (names_of given)))
 
 or_middle : (x y z : Bool) → y ≡ true → (x || y || z) ≡ true
 or_middle true y z e = refl
@@ -337,7 +337,7 @@ placed_whole : (given : List Form) (t : Litmus) (f : Form) → AreFormsOf given 
 placed_whole given t Blank h = refl
 placed_whole given t (TestLine n) h = rw h.parts refl
 placed_whole given t (BytesLine c) h = rw (ends_checked given t h) refl
-placed_whole given t (AgentLine n) h = or_middle (is_none (block_of given)) (list_any is_check_line given) (not (length (open_ifs given) == 0)) (checked_is given t h)
+placed_whole given t (AgentLine n) h = or_middle (is_none (block_of given)) (list_any is_check_line given) (not (is_empty (open_ifs given))) (checked_is given t h)
 placed_whole given t (StatementLine r) h = rw (not_begun given t h) refl
 placed_whole given t (IfLine r q v) h = rw (not_begun given t h) refl
 placed_whole given t ElseLine h = rw (not_begun given t h) refl

@@ -1,6 +1,6 @@
 -- Which `if`s are open behind an agent's forms, none of them misplaced.
 use Rattle.std.proofs.Common.{◌≡◌, ℕ, Bool, true, false, not, ◌||◌, ◌&&◌, List, [], ◌∷◌, ◌++◌, Some, None, inl, inr, refl, ap, sym, subst, ◌∙◌, append_assoc}
-use Rattle.std.specs.Prelude.{◌==◌, fold, length}
+use Rattle.std.specs.Prelude.{fold}
 use Rattle.std.specs.List.{list_any, AllByRecursion}
 use Rattle.std.proofs.lemmas.List.{append-nil}
 use Rattle.std.proofs.lemmas.Bool.{and_parts}
@@ -10,7 +10,7 @@ use Rattle.lit_syntax.specs.Syntax.{Statement, Statements, Load, Store, Exchange
 use Rattle.lit_syntax.specs.Tokens.{begins_with}
 use Rattle.lit_syntax.specs.Forms.{Form, Blank, TestLine, BytesLine, AgentLine, StatementLine, IfLine, ElseLine, EndLine, CheckLine, IsForm}
 use Rattle.lit_read.specs.Structure.{is_body_line, IsStatement, AreStatements, IsOpenPart, LeaveOpen}
-use Rattle.lit_read.specs.Faults.{is_check_line, names_of, is_begun, open_behind, open_ifs, is_misplaced, none_misplaced}
+use Rattle.lit_read.specs.Faults.{is_check_line, names_of, is_begun, open_behind, open_ifs, is_empty, is_misplaced, none_misplaced}
 use Rattle.lit_read.specs.Internal.State.{followed_by}
 use Rattle.lit_read.proofs.SpellLemmas.{AreElse, else_lines, are_body_lines, statement_open, statements_open, statements_added, or_right_false}
 use Rattle.lit_read.proofs.DraftForms.{IsOther, other_check, names_skip, not_not}
@@ -23,7 +23,7 @@ abbrev fits : List Bool → Form → Bool
 fits o (StatementLine s) = true
 fits o (IfLine r q v) = true
 fits o ElseLine = begins_with not o
-fits o EndLine = not (length o == 0)
+fits o EndLine = not (is_empty o)
 fits o _ = false
 
 abbrev all_fit : List Bool → List Form → Bool

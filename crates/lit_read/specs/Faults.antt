@@ -63,9 +63,14 @@ names_of [] = []
 names_of (AgentLine name ∷ fs) = name ∷ names_of fs
 names_of (f ∷ fs) = names_of fs
 
+-- whether a list has no member
+abbrev pub is_empty : {A : Type 0} → List A → Bool
+is_empty [] = true
+is_empty (x ∷ xs) = false
+
 -- whether an agent has begun, and no check line has come
 abbrev pub is_begun : List Form → Bool
-is_begun given = not (length (names_of given) == 0) && not (list_any is_check_line given)
+is_begun given = not (is_empty (names_of given)) && not (list_any is_check_line given)
 
 -- The `if`s that are open behind a form, the innermost first, from those before it: whether the else line has come.
 abbrev pub open_behind : List Bool → Form → List Bool
@@ -96,14 +101,14 @@ agent_writes name reg (f ∷ fs) = agent_writes name reg fs
 -- whether a form cannot stand behind these; an else line stands where the innermost open `if` has none yet
 abbrev pub is_misplaced : List Form → Form → Bool
 is_misplaced given Blank = false
-is_misplaced given (TestLine name) = not (length given == 0)
+is_misplaced given (TestLine name) = not (is_empty given)
 is_misplaced given (BytesLine bytes) = not (ends_in_test given)
-is_misplaced given (AgentLine name) = is_none (block_of given) || list_any is_check_line given || not (length (open_ifs given) == 0)
+is_misplaced given (AgentLine name) = is_none (block_of given) || list_any is_check_line given || not (is_empty (open_ifs given))
 is_misplaced given (StatementLine s) = not (is_begun given)
 is_misplaced given (IfLine reg equal value) = not (is_begun given)
 is_misplaced given ElseLine = not (is_begun given) || not (begins_with not (open_ifs given))
-is_misplaced given EndLine = not (is_begun given) || (length (open_ifs given) == 0)
-is_misplaced given (CheckLine w) = not (is_begun given) || not (length (open_ifs given) == 0)
+is_misplaced given EndLine = not (is_begun given) || is_empty (open_ifs given)
+is_misplaced given (CheckLine w) = not (is_begun given) || not (is_empty (open_ifs given))
 
 -- whether none of the forms is misplaced behind these and those of them that come before it
 abbrev pub none_misplaced : List Form → List Form → Bool
