@@ -7,7 +7,7 @@ ghost use Rattle.lit_rel.specs.EventSet.{HasEvent};
 ghost use Rattle.lit_rel.specs.Rows.{rows_len, Holds};
 
 use lit_paths::EVENT_LIMIT;
-use lit_rel::{Between, EventSet, Pair, Rows};
+use lit_rel::{Between, EventSet, Pair, TwoWayRows};
 
 /// Whether one source and its read let an event stand next after the placed events: the event may stand between them,
 /// or the source is not placed, or the read is the event itself or is placed too.
@@ -42,12 +42,12 @@ fn allows(between: &Between, event: usize, placed: EventSet) -> bool
 /// read.
 #[derive(Drop)]
 pub(crate) struct Constraints<'a> {
-    /// From each event to the events that come before it.
-    converse: &'a Rows,
+    /// Which events come before which.
+    before: &'a TwoWayRows,
     between: &'a Between,
     /// The events that may not stand between some source and its read.
     kept: EventSet,
-    ghost same: { rows_len converse.now ≡ between.now.len },
+    ghost same: { rows_len before.now.converse ≡ between.now.len },
     ghost few: { between.now.len ≤ EVENT_LIMIT },
     ghost all: { (w r v : ℕ) → Forbids between.now w r v → HasEvent kept v },
 }
@@ -56,11 +56,11 @@ impl<'a> Constraints<'a> {
     ghost use Rattle.lit_order.specs.Internal.Beginning.{CanStandNext, IsNext};
     ghost use Rattle.lit_order.specs.Internal.Constrained.{constrained_len, ComesBefore, MayNotStand};
 
-    /// The constraints of a relation, given by its converse, and of forbidden triples, both on the same events.
-    pub(crate) fn new(converse: &'a Rows, between: &'a Between) -> Self
-        requires { rows_len converse.now ≡ between.now.len }
-        ensures len { constrained_len result ≡ rows_len converse.now }
-        ensures pairs { (a e : ℕ) → ComesBefore result a e ↔ Holds converse.now e a }
+    /// The constraints of a relation and of forbidden triples, both on the same events.
+    pub(crate) fn new(before: &'a TwoWayRows, between: &'a Between) -> Self
+        requires { rows_len before.now.converse ≡ between.now.len }
+        ensures len { constrained_len result ≡ rows_len before.now.converse }
+        ensures pairs { (a e : ℕ) → ComesBefore result a e ↔ Holds before.now.converse e a }
         ensures triples { (w r v : ℕ) → MayNotStand result w r v ↔ Forbids between.now w r v }
     {
         let mut kept = EventSet::new();
@@ -68,7 +68,7 @@ impl<'a> Constraints<'a> {
             kept = kept.union(pair.others);
         }
         Constraints {
-            converse,
+            before,
             between,
             kept,
         }
@@ -105,7 +105,7 @@ impl<'a> Constraints<'a> {
         ensures { IsTrue result ↔ CanStandNext (ComesBefore self.now) (MayNotStand self.now) (HasEvent placed) event }
     {
         !placed.contains(event)
-            && self.converse.successors(event).is_within(placed)
+            && self.before.converse.successors(event).is_within(placed)
             && self.allows(event, placed)
     }
 
@@ -120,7 +120,8 @@ impl<'a> Constraints<'a> {
             if self.can_stand_next(event, placed) {
                 return Some(event);
             }
-            left = others;
+            // Nor can an event that comes after it.
+            left = others.difference(self.before.rows.successors(event));
         }
         None
     }

@@ -40,7 +40,7 @@ pub fn least_of(forced: &TwoWayRows, between: &Between) -> Option<Order>
     ensures none { IfNone result
         ((order : List ℕ) → ¬ IsOrderOf (rows_len forced.now.rows) (Holds forced.now.rows) (Forbids between.now) order) }
 {
-    let constraints = Constraints::new(&forced.converse, between);
+    let constraints = Constraints::new(forced, between);
     // The greedy extension is tried first: it needs no search, and it succeeds wherever it never runs into a dead end.
     let mut greedy = Order::new();
     if extend_greedily(&mut greedy, EventSet::new(), &constraints) {

@@ -6,7 +6,7 @@ ghost use Rattle.lit_order.specs.Internal.Constrained.{BeginsNone, IsBegun, IsLe
 
 use crate::constraints::Constraints;
 use crate::order::{Order, OrderFinder};
-use lit_rel::{Between, EventSet, Rows, converse_of};
+use lit_rel::{Between, EventSet, Rows, TwoWayRows, converse_of};
 
 /// Builds orders event by event, the least event that can stand next first, and backtracks where none can be completed.
 #[derive(Clone, Copy, Debug, Default, PartialEq, Eq)]
@@ -15,7 +15,11 @@ pub struct PlainFinder;
 impl OrderFinder for PlainFinder {
     fn least_order(&self, before: &Rows, between: &Between) -> Option<Order> {
         let converse = converse_of(before);
-        let constraints = Constraints::new(&converse, between);
+        let before = TwoWayRows {
+            rows: *before,
+            converse,
+        };
+        let constraints = Constraints::new(&before, between);
         let mut order = Order::new();
         if extend(&mut order, EventSet::new(), &constraints) {
             Some(order)

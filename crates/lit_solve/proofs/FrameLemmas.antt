@@ -3,9 +3,13 @@ use Rattle.lit_solve.proofs.Words.{◌+◌, ◌<◌, [], AreTriplesBelow, arith,
 use Rattle.lit_solve.proofs.Words.{cases_lt, Chain, Chain-append, event_at, EventSet, false, Frame, Given, GivenIn, HappensBeforeIn}
 use Rattle.lit_solve.proofs.Words.{HasAlone, HasEvent, Holds, inl, inr, IsBox, IsContained, IsExact, IsForbiddenAt, IsForbiddenBetween}
 use Rattle.lit_solve.proofs.Words.{IsForbiddenIn, IsForced, IsForced-grow, IsForcedIn, IsSynchronizedAt, IsTransitive, IsTrue, length}
-use Rattle.lit_solve.proofs.Words.{List, rows_len, same_Some, slice_get, slice_get_within, Some, StepBy, subst, sym, Through, true}
-use Rattle.lit_solve.proofs.Words.{TwoWayRows, WithPair-within, WithPair, write_known, ℕ, ◌↔◌, ◌∙◌, ◌∷◌, ◌≡◌, ◌⊎◌}
+use Rattle.lit_solve.proofs.Words.{IsLeastOrderOf, IsOrderOf, List, never_before_itself, Rows, rows_len, same_Some, slice_get, slice_get_within}
+use Rattle.lit_solve.proofs.Words.{Some, StandsBefore, StandsBefore-through, StepBy, subst, sym, Through, true}
+use Rattle.lit_solve.proofs.Words.{TwoWayRows, WithPair-within, WithPair, write_known, ℕ, ◌↔◌, ◌∙◌, ◌∷◌, ◌≡◌, ◌≢◌, ◌⊎◌}
+use Rattle.lit_order.specs.Forcing.{AfterRead, BeforeSource, HasForcedCycle}
+use Rattle.lit_order.proofs.RowsLemmas.{holds_or_not}
 use Rattle.lit_rel.proofs.SourceLemmas.{read_known}
+use Rattle.lit_solve.specs.Internal.Frames.{IsUnsettled}
 
 -- a number below the next one is below, or the one itself
 pub below_or_last : (k n : ℕ) → k < n + 1 → (k < n) ⊎ (k ≡ n)
@@ -116,15 +120,46 @@ module _ (box : Box) (before : ℕ → ℕ → Type 0) (within : (a d : ℕ) →
         from (inl old) = (new x y v).1 (inl old)
         from (inr at) = let f = forbidden_at x y v at in (new x y v).1 (inr (f.0, f.1, subst (λ (m : ℕ). v < m) (sym len) f.2, (are v).1 (f.2, f.3)))
 
-    -- none, where there are none
-    pub forbidden_none : (Old : ℕ → ℕ → ℕ → Type 0) (others : EventSet) → ((v : ℕ) → ¬ HasEvent others v)
-        → ((v : ℕ) → HasEvent others v ↔ ((v < length (box_events box)) × IsForbiddenBetween (box_events box) before w r v)) → (x y v : ℕ) → Old x y v
-        ↔ (Old x y v ⊎ IsForbiddenAt box k x y v)
-    forbidden_none Old others none are x y v = (λ old. inl old, from)
-      where
-        from : Old x y v ⊎ IsForbiddenAt box k x y v → Old x y v
-        from (inl old) = old
-        from (inr at) = let f = forbidden_at x y v at in absurd (none v ((are v).1 (f.2, f.3)))
+    -- the same of those that are so besides, where these events are exactly those
+    module _ (Besides : ℕ → ℕ → ℕ → Type 0) (others : EventSet) (are : (v : ℕ) → HasEvent others v ↔ ((v < length (box_events box)) × IsForbiddenBetween (box_events box) before w r v × Besides w r v)) where
+      pub besides_more : (Old New : ℕ → ℕ → ℕ → Type 0) (n : ℕ) → n ≡ length (box_events box)
+          → ((x y v : ℕ) → New x y v ↔ (Old x y v ⊎ ((x ≡ w) × (y ≡ r) × (v < n) × HasEvent others v))) → (x y v : ℕ) → New x y v
+          ↔ (Old x y v ⊎ (IsForbiddenAt box k x y v × Besides x y v))
+      besides_more Old New n len new x y v = (to, from)
+        where
+          to_either : Old x y v ⊎ ((x ≡ w) × (y ≡ r) × (v < n) × HasEvent others v) → Old x y v ⊎ (IsForbiddenAt box k x y v × Besides x y v)
+          to_either (inl old) = inl old
+          to_either (inr (source, read, known, has)) =
+              let one = (are v).0 has in
+              inr (
+                forbidden_there x y v (source, read, one.1),
+                subst (λ (s : ℕ). Besides s y v) (sym source) (subst (λ (q : ℕ). Besides w q v) (sym read) one.2),
+              )
+
+          to : New x y v → Old x y v ⊎ (IsForbiddenAt box k x y v × Besides x y v)
+          to h = to_either ((new x y v).0 h)
+
+          from : Old x y v ⊎ (IsForbiddenAt box k x y v × Besides x y v) → New x y v
+          from (inl old) = (new x y v).1 (inl old)
+          from (inr (at, so)) =
+              let f = forbidden_at x y v at in
+              (new x y v).1 (inr (
+                f.0,
+                f.1,
+                subst (λ (m : ℕ). v < m) (sym len) f.2,
+                (are v).1 (f.2, f.3, subst (λ (q : ℕ). Besides w q v) f.1 (subst (λ (s : ℕ). Besides s y v) f.0 so)),
+              ))
+
+      -- none, where there are none
+      pub besides_none : (Old : ℕ → ℕ → ℕ → Type 0) → ((v : ℕ) → ¬ HasEvent others v) → (x y v : ℕ) → Old x y v
+          ↔ (Old x y v ⊎ (IsForbiddenAt box k x y v × Besides x y v))
+      besides_none Old none x y v = (λ old. inl old, from)
+        where
+          from : Old x y v ⊎ (IsForbiddenAt box k x y v × Besides x y v) → Old x y v
+          from (inl old) = old
+          from (inr (at, so)) =
+              let f = forbidden_at x y v at in
+              absurd (none v ((are v).1 (f.2, f.3, subst (λ (q : ℕ). Besides w q v) f.1 (subst (λ (s : ℕ). Besides s y v) f.0 so))))
 
 -- all of them
 pub forbidden_in : (box : Box) (n w r v : ℕ) → n ≡ length (byte_reads (box_events box))
@@ -139,32 +174,109 @@ triples_below_in box is_box = record {
   other = λ w r v f. write_known (box_events box) v f.between.writes;
 }
 
+-- ---- triples that a relation settles force nothing more
+module _ (before more : ℕ → ℕ → Type 0) (forbidden unsettled : ℕ → ℕ → ℕ → Type 0) (within : (a d : ℕ) → before a d → more a d)
+    (all : (w r v : ℕ) → forbidden w r v → unsettled w r v ⊎ (more r v ⊎ more v w)) where
+  abbrev forced_or_cycle : ℕ → ℕ → Type 0
+  forced_or_cycle a d = IsForced more unsettled a d ⊎ HasForcedCycle more unsettled
+
+  through_or : (a m d : ℕ) → forced_or_cycle a m → forced_or_cycle m d → forced_or_cycle a d
+  through_or a m d (inr cycle) _ = inr cycle
+  through_or a m d (inl _) (inr cycle) = inr cycle
+  through_or a m d (inl p) (inl q) = inl (Through m p q)
+
+  after_or : (w r v : ℕ) → forbidden w r v → v ≢ w → v ≢ r → forced_or_cycle w v → forced_or_cycle r v
+  after_or w r v f not_source not_read (inr cycle) = inr cycle
+  after_or w r v f not_source not_read (inl p) = elim (all w r v f) [
+    | inl yet ↦ inl (AfterRead w yet not_source not_read p)
+    | inr settled ↦ elim settled [ inl after ↦ inl (Given after) | inr earlier ↦ inr (v, Through w (Given earlier) p) ]
+  ]
+
+  before_or : (w r v : ℕ) → forbidden w r v → v ≢ w → v ≢ r → forced_or_cycle v r → forced_or_cycle v w
+  before_or w r v f not_source not_read (inr cycle) = inr cycle
+  before_or w r v f not_source not_read (inl p) = elim (all w r v f) [
+    | inl yet ↦ inl (BeforeSource r yet not_source not_read p)
+    | inr settled ↦ elim settled [ inl after ↦ inr (v, Through r p (Given after)) | inr earlier ↦ inl (Given earlier) ]
+  ]
+
+  pub forced_unsettled : (a d : ℕ) → IsForced before forbidden a d → forced_or_cycle a d
+  forced_unsettled a d (Given h) = inl (Given (within a d h))
+  forced_unsettled a d (Through m p q) = through_or a m d (forced_unsettled a m p) (forced_unsettled m d q)
+  forced_unsettled r v (AfterRead w f not_source not_read p) = after_or w r v f not_source not_read (forced_unsettled w v p)
+  forced_unsettled v w (BeforeSource r f not_source not_read p) = before_or w r v f not_source not_read (forced_unsettled v r p)
+
+-- a triple that is not unsettled is settled
+settled_or_not : (rows : Rows) (forbidden : ℕ → ℕ → ℕ → Type 0) (w r v : ℕ) → forbidden w r v
+    → (forbidden w r v × IsUnsettled (Holds rows) w r v) ⊎ (Holds rows r v ⊎ Holds rows v w)
+settled_or_not rows forbidden w r v f = elim (holds_or_not rows r v) [
+  | inl after ↦ inr (inl after)
+  | inr not_after ↦ elim (holds_or_not rows v w) [
+    | inl earlier ↦ inr (inr earlier)
+    | inr not_earlier ↦ inl (f, record { not_after = not_after; not_earlier = not_earlier })
+  ]
+]
+
 -- ---- a frame with all that is forced
 module _ (box : Box) (was now : Frame) (is : IsContained box was) (exact : (a d : ℕ) → HappensBeforeIn box a d → Holds was.happens_before.rows a d)
-    (forbidden : ℕ → ℕ → ℕ → Type 0) (triples : (w r v : ℕ) → forbidden w r v ↔ IsForbiddenIn box w r v) where
+    (forbidden : ℕ → ℕ → ℕ → Type 0) (triples : (w r v : ℕ) → forbidden w r v ↔ (IsForbiddenIn box w r v × IsUnsettled (Holds was.forced.rows) w r v)) where
   pub forced_sound : (a d : ℕ) → IsForced (Holds was.forced.rows) forbidden a d → IsForcedIn box a d
-  forced_sound = IsForced-grow (Holds was.forced.rows) (HappensBeforeIn box) forbidden (IsForbiddenIn box) is.forced_in (λ w r v. (triples w r v).0)
+  forced_sound =
+      IsForced-grow (Holds was.forced.rows) (HappensBeforeIn box) forbidden (IsForbiddenIn box) is.forced_in (λ w r v f. ((triples w r v).0 f).0)
 
-  pub forced_whole : (a d : ℕ) → IsForcedIn box a d → IsForced (Holds was.forced.rows) forbidden a d
-  forced_whole =
-      IsForced-grow (HappensBeforeIn box) (Holds was.forced.rows) (IsForbiddenIn box) forbidden (λ a d h. Given (is.both a d (exact a d h)))
-      (λ w r v. (triples w r v).1)
+  -- a triple that is not listed is settled
+  listed_or_settled : (w r v : ℕ) → IsForbiddenIn box w r v → forbidden w r v ⊎ (Holds was.forced.rows r v ⊎ Holds was.forced.rows v w)
+  listed_or_settled w r v f = elim (settled_or_not was.forced.rows (IsForbiddenIn box) w r v f) [
+    | inl yet ↦ inl ((triples w r v).1 yet)
+    | inr settled ↦ inr settled
+  ]
 
-  pub forced_exact : now.happens_before ≡ was.happens_before → rows_len now.forced.rows ≡ rows_len was.forced.rows
-      → ((a d : ℕ) → Holds now.forced.rows a d ↔ IsForced (Holds was.forced.rows) forbidden a d) → IsExact box now
-  forced_exact same len pairs = record {
-    contained = record {
-      is_box = is.is_box;
-      some = is.some;
-      before_len = subst (λ (h : TwoWayRows). rows_len h.rows ≡ length (box_events box)) (sym same) is.before_len;
-      forced_len = len ∙ is.forced_len;
-      before_closed = subst (λ (h : TwoWayRows). IsTransitive (Holds h.rows)) (sym same) is.before_closed;
-      forced_closed = λ x y z p q. (pairs x z).1 (Through y ((pairs x y).0 p) ((pairs y z).0 q));
-      unsourced = λ a d h. subst (λ (k : TwoWayRows). Holds k.rows a d) (sym same) (is.unsourced a d h);
-      both = λ a d h. (pairs a d).1 (Given (is.both a d (subst (λ (k : TwoWayRows). Holds k.rows a d) same h)));
-      before_in = λ a d h. is.before_in a d (subst (λ (k : TwoWayRows). Holds k.rows a d) same h);
-      forced_in = λ a d h. forced_sound a d ((pairs a d).0 h);
-    };
-    before = λ a d h. subst (λ (k : TwoWayRows). Holds k.rows a d) (sym same) (exact a d h);
-    forced = λ a d f. (pairs a d).1 (forced_whole a d f);
-  }
+  module _ (acyclic : ¬ HasForcedCycle (Holds was.forced.rows) forbidden) where
+    pub forced_whole : (a d : ℕ) → IsForcedIn box a d → IsForced (Holds was.forced.rows) forbidden a d
+    forced_whole a d f =
+        elim (forced_unsettled (HappensBeforeIn box) (Holds was.forced.rows) (IsForbiddenIn box) forbidden (λ x y h. is.both x y (exact x y h)) listed_or_settled a d f) [
+          | inl forced ↦ forced
+          | inr cycle ↦ absurd (acyclic cycle)
+        ]
+
+    pub forced_exact : now.happens_before ≡ was.happens_before → rows_len now.forced.rows ≡ rows_len was.forced.rows
+        → ((a d : ℕ) → Holds now.forced.rows a d ↔ IsForced (Holds was.forced.rows) forbidden a d) → IsExact box now
+    forced_exact same len pairs = record {
+      contained = record {
+        is_box = is.is_box;
+        some = is.some;
+        before_len = subst (λ (h : TwoWayRows). rows_len h.rows ≡ length (box_events box)) (sym same) is.before_len;
+        forced_len = len ∙ is.forced_len;
+        before_closed = subst (λ (h : TwoWayRows). IsTransitive (Holds h.rows)) (sym same) is.before_closed;
+        forced_closed = λ x y z p q. (pairs x z).1 (Through y ((pairs x y).0 p) ((pairs y z).0 q));
+        unsourced = λ a d h. subst (λ (k : TwoWayRows). Holds k.rows a d) (sym same) (is.unsourced a d h);
+        both = λ a d h. (pairs a d).1 (Given (is.both a d (subst (λ (k : TwoWayRows). Holds k.rows a d) same h)));
+        before_in = λ a d h. is.before_in a d (subst (λ (k : TwoWayRows). Holds k.rows a d) same h);
+        forced_in = λ a d h. forced_sound a d ((pairs a d).0 h);
+      };
+      before = λ a d h. subst (λ (k : TwoWayRows). Holds k.rows a d) (sym same) (exact a d h);
+      forced = λ a d f. (pairs a d).1 (forced_whole a d f);
+    }
+
+-- the orders of a relation are the same without the triples that it settles
+module _ (n : ℕ) (rows : Rows) (forbidden unsettled : ℕ → ℕ → ℕ → Type 0)
+    (triples : (w r v : ℕ) → unsettled w r v ↔ (forbidden w r v × IsUnsettled (Holds rows) w r v)) where
+  order_settled : (order : List ℕ) → IsOrderOf n (Holds rows) unsettled order → IsOrderOf n (Holds rows) forbidden order
+  order_settled order o = record { complete = o.complete; keeps = o.keeps; avoids = never }
+    where
+      never : (w r v : ℕ) → forbidden w r v → StandsBefore order w v → StandsBefore order v r → ⊥
+      never w r v f p q = elim (settled_or_not rows forbidden w r v f) [
+        | inl yet ↦ o.avoids w r v ((triples w r v).1 yet) p q
+        | inr settled ↦ elim settled [
+          | inl after ↦ never_before_itself order o.complete.once r (StandsBefore-through order o.complete.once r v r (o.keeps r v after) q)
+          | inr earlier ↦ never_before_itself order o.complete.once v (StandsBefore-through order o.complete.once v w v (o.keeps v w earlier) p)
+        ]
+      ]
+
+  order_unsettled : (order : List ℕ) → IsOrderOf n (Holds rows) forbidden order → IsOrderOf n (Holds rows) unsettled order
+  order_unsettled order o = record { complete = o.complete; keeps = o.keeps; avoids = λ w r v f. o.avoids w r v ((triples w r v).0 f).0 }
+
+  pub least_settled : (order : List ℕ) → IsLeastOrderOf n (Holds rows) unsettled order → IsLeastOrderOf n (Holds rows) forbidden order
+  least_settled order l = record { is_order = order_settled order l.is_order; least = λ other o. l.least other (order_unsettled other o) }
+
+  pub none_settled : ((order : List ℕ) → ¬ IsOrderOf n (Holds rows) unsettled order) → (order : List ℕ) → ¬ IsOrderOf n (Holds rows) forbidden order
+  none_settled none order o = none order (order_unsettled order o)

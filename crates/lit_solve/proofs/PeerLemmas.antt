@@ -1,37 +1,27 @@
--- What may not stand between a read and a source that synchronizes with it.
-use Rattle.lit_solve.proofs.Words.{event_at, Event, IsForbiddenBetween, inl, inr, ℕ, ◌↔◌, ◌<◌, ◌≢◌, length, List}
-use Rattle.lit_paths.specs.Event.{HasSameRange}
-use Rattle.lit_rel.specs.Peers.{IsSeqCstWrite}
-use Rattle.lit_rel.specs.SynchronizesWith.{CanSynchronize}
+-- What may not stand between a source and a read has the range of one of them.
+use Rattle.lit_solve.proofs.Words.{ArePeers, Event, EventSet, HasEvent, Holds, IsForbiddenBetween, IsPeer, inl, inr, ℕ, ◌<◌, ◌↔◌, ◌⊎◌, event_at}
+use Rattle.lit_solve.proofs.Words.{length, List, Rows, same_range_back}
 
-pub between_peers : (events : List Event) (before : ℕ → ℕ → Type 0) (w r v : ℕ) → CanSynchronize (event_at events w) (event_at events r)
-    → ((IsSeqCstWrite events v × CanSynchronize (event_at events v) (event_at events r)) × (v ≢ w) × (v ≢ r))
-    ↔ ((v < length events) × IsForbiddenBetween events before w r v)
-unfolding HasSameRange
-between_peers events before w r v sync = (
-  (λ h. (
-    h.0.0.known,
-    record {
-      not_source = h.1;
-      not_read = h.2;
-      writes = h.0.0.writes;
-      ordered = h.0.0.ordered;
-      pattern = inl (record { synchronized = sync; same_range = h.0.1.same_range });
-    },
-  )),
-  (λ f.
-      let same : HasSameRange (event_at events v) (event_at events r) = elim f.1.pattern [
-        | inl both ↦ both.same_range
-        | inr one ↦ elim one [
-          | inl after ↦ λ b. (λ h. (sync.same_range b).0 ((after.same_range b).1 h), λ h. (after.same_range b).0 ((sync.same_range b).1 h))
-          | inr before_read ↦ before_read.same_range
-        ]
-      ] in (
-        (
-          record { known = f.0; writes = f.1.writes; ordered = f.1.ordered },
-          record { writer = f.1.ordered; reader = sync.reader; same_range = same },
-        ),
-        f.1.not_source,
-        f.1.not_read,
-      )),
-)
+module _ (events : List Event) (before : ℕ → ℕ → Type 0) (w r v : ℕ) (source : w < length events) (read : r < length events) (other : v < length events)
+    (f : IsForbiddenBetween events before w r v) where
+  is_peer : IsPeer events w v ⊎ IsPeer events r v
+  is_peer = elim f.pattern [
+    | inl both ↦ inr (record { known = read; write = record { known = other; writes = f.writes; ordered = f.ordered }; same_range = both.same_range })
+    | inr one ↦ elim one [
+      | inl after ↦
+          inl (record {
+            known = source;
+            write = record { known = other; writes = f.writes; ordered = f.ordered };
+            same_range = same_range_back (event_at events w) (event_at events v) after.same_range;
+          })
+      | inr before_read ↦ inr (record { known = read; write = record { known = other; writes = f.writes; ordered = f.ordered }; same_range = before_read.same_range })
+    ]
+  ]
+
+  pub forbidden_ranged : (peers : Rows) (of_source of_read ranged : EventSet) → ArePeers events peers
+      → ((d : ℕ) → HasEvent of_source d ↔ Holds peers w d) → ((d : ℕ) → HasEvent of_read d ↔ Holds peers r d)
+      → ((d : ℕ) → HasEvent ranged d ↔ (HasEvent of_source d ⊎ HasEvent of_read d)) → HasEvent ranged v
+  forbidden_ranged peers of_source of_read ranged are its_source its_read both = elim is_peer [
+    | inl peer ↦ (both v).1 (inl ((its_source v).1 ((are.pairs w v).1 peer)))
+    | inr peer ↦ (both v).1 (inr ((its_read v).1 ((are.pairs r v).1 peer)))
+  ]

@@ -14,7 +14,7 @@ ghost use Rattle.lit_order.specs.Forcing.{HasForcedCycle};
 ghost use Rattle.lit_solve.specs.Fill.{HasEffect};
 ghost use Rattle.lit_solve.specs.Given.{HappensBeforeIn, HasAlone, IsForbiddenIn};
 ghost use Rattle.lit_solve.specs.Box.{events_on};
-ghost use Rattle.lit_solve.specs.Internal.Frames.{IsContained, IsForbiddenAt, IsSynchronizedAt, box_of};
+ghost use Rattle.lit_solve.specs.Internal.Frames.{IsContained, IsForbiddenAt, IsSynchronizedAt, IsUnsettled, box_of};
 ghost use Rattle.lit_solve.specs.Internal.Fixpoint.{IsFixpointBelow};
 
 use crate::domains::only_one;
@@ -112,26 +112,52 @@ impl Problem<'_> {
         }
     }
 
-    /// The events that may not stand between a source and a read in memory-order (29.7.4) if the read has that source, by a frame's
-    /// happens-before. Both are event numbers.
-    pub(crate) fn others_between(&self, frame: &Frame, source: usize, read: usize) -> EventSet
+    /// The events of a set that may not stand between a source and a read in memory-order (29.7.4) if the read has that source, by a
+    /// frame's happens-before. Both are event numbers.
+    pub(crate) fn others_among(
+        &self,
+        frame: &Frame,
+        source: usize,
+        read: usize,
+        among: EventSet,
+    ) -> EventSet
+        requires contained { IsContained (box_of self.now frame.now) frame.now }
+        requires source { source < length (events_on self.now) }
+        requires read { read < length (events_on self.now) }
+        ensures { (v : ℕ) → HasEvent result v ↔ (HasEvent among v × (v < length (events_on self.now))
+            × IsForbiddenBetween (events_on self.now) (Holds frame.now.happens_before.rows) source read v) }
+    {
+        // Each has the range of the source or of the read. Mostly the set has no such event.
+        let ranged = self
+            .peers
+            .successors(source)
+            .union(self.peers.successors(read));
+        let left = among.intersection(ranged);
+        if left.is_empty() {
+            return left;
+        }
+        let events = self.events();
+        let (before, peers) = (&frame.happens_before, &self.peers);
+        left.intersection(others_between(events, source as u8, read as u8, before, peers))
+    }
+
+    /// The events that may not stand between a source and a read if the read has that source, but for those that are forced after the
+    /// read or before the source: these force nothing more. Both are event numbers.
+    fn unsettled_others(&self, frame: &Frame, source: usize, read: usize) -> EventSet
         requires contained { IsContained (box_of self.now frame.now) frame.now }
         requires source { source < length (events_on self.now) }
         requires read { read < length (events_on self.now) }
         ensures { (v : ℕ) → HasEvent result v ↔ ((v < length (events_on self.now))
-            × IsForbiddenBetween (events_on self.now) (Holds frame.now.happens_before.rows) source read v) }
+            × IsForbiddenBetween (events_on self.now) (Holds frame.now.happens_before.rows) source read v
+            × IsUnsettled (Holds frame.now.forced.rows) source read v) }
     {
-        // Behind a source that synchronizes, that is each other such source, whatever comes before what.
-        let synchronizing = self.synchronizing(read);
-        let events = self.events();
-        if synchronizing.contains(source) {
-            return synchronizing.difference(EventSet::new().with(source).with(read));
-        }
-        let (before, peers) = (&frame.happens_before, &self.peers);
-        others_between(events, source as u8, read as u8, before, peers)
+        let after = frame.forced.rows.successors(read).with(read);
+        let earlier = frame.forced.converse.successors(source).with(source);
+        let unsettled = EventSet::below(self.events().len()).difference(after.union(earlier));
+        self.others_among(frame, source, read, unsettled)
     }
 
-    /// Adds the forbidden triples of the given source of a byte read, if it has one.
+    /// Adds the forbidden triples of the given source of a byte read, if it has one, that may force something.
     fn forbid(&self, frame: &Frame, between: &mut Between, place: usize)
         requires place { place < length (byte_reads (events_on self.now)) }
         requires contained { IsContained (box_of self.now frame.now) frame.now }
@@ -141,24 +167,26 @@ impl Problem<'_> {
         ensures len { between.new.len ≡ between.old.len }
         ensures count { length between.new.pairs ≤ length between.old.pairs + 1 }
         ensures triples { (w r v : ℕ) → Forbids between.new w r v
-            ↔ (Forbids between.old w r v ⊎ IsForbiddenAt (box_of self.now frame.now) place w r v) }
+            ↔ (Forbids between.old w r v ⊎ (IsForbiddenAt (box_of self.now frame.now) place w r v
+            × IsUnsettled (Holds frame.now.forced.rows) w r v)) }
     {
         let read = self.byte_read(place).read;
         let Some(source) = self.given(frame, place) else {
             return;
         };
-        let others = self.others_between(frame, source, read as usize);
+        let others = self.unsettled_others(frame, source, read as usize);
         if !others.is_empty() {
             between.forbid(source as u8, read, others);
         }
     }
 
-    /// Overwrites `between` with the forbidden triples of all given sources.
+    /// Overwrites `between` with the forbidden triples of all given sources that may force something: what is forced settles the others.
     pub(crate) fn put_between(&self, frame: &Frame, between: &mut Between)
         requires contained { IsContained (box_of self.now frame.now) frame.now }
         requires exact { (a d : ℕ) → HappensBeforeIn (box_of self.now frame.now) a d → Holds frame.now.happens_before.rows a d }
         ensures len { between.new.len ≡ length (events_on self.now) }
-        ensures triples { (w r v : ℕ) → Forbids between.new w r v ↔ IsForbiddenIn (box_of self.now frame.now) w r v }
+        ensures triples { (w r v : ℕ) → Forbids between.new w r v
+            ↔ (IsForbiddenIn (box_of self.now frame.now) w r v × IsUnsettled (Holds frame.now.forced.rows) w r v) }
     {
         between.begin(self.events().len());
         for place in 0..self.reads() {

@@ -49,17 +49,9 @@ impl Problem<'_> {
         ensures { IsTrue result ↔ ((v : ℕ) × IsForbiddenBetween (events_on self.now) (Holds frame.now.happens_before.rows) source read v
             × Holds frame.now.forced.rows source v × Holds frame.now.forced.rows v read) }
     {
-        let between = frame
-            .forced
-            .rows
-            .successors(source)
-            .intersection(frame.forced.converse.successors(read));
-        // Where nothing is forced between the two, the forbidden events need not be computed.
-        if between.is_empty() {
-            return false;
-        }
-        let others = self.others_between(frame, source, read);
-        !others.intersection(between).is_empty()
+        let after = frame.forced.rows.successors(source);
+        let between = after.intersection(frame.forced.converse.successors(read));
+        !self.others_among(frame, source, read, between).is_empty()
     }
 
     /// The given source of a byte read, if its read can read whole from it; else no event.

@@ -13,7 +13,7 @@ constrained_len constraints = constraints.between.now.len
 
 -- a comes before e
 abbrev pub ComesBefore : Constraints → ℕ → ℕ → Type 0
-ComesBefore constraints a e = Holds constraints.converse.now e a
+ComesBefore constraints a e = Holds constraints.before.now.converse e a
 
 -- v may not stand after w and before r
 abbrev pub MayNotStand : Constraints → ℕ → ℕ → ℕ → Type 0

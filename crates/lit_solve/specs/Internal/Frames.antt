@@ -82,3 +82,8 @@ pub record IsForbiddenAt (box : Box) (k w r v : ℕ) : Type 0 where
   pub is_read : slice_get (byte_reads (box_events box)) k ≡ Some (r, byte)
   pub alone : HasAlone box k w
   pub between : IsForbiddenBetween (box_events box) (HappensBeforeIn box) w r v
+
+-- v is neither after r nor before w, by a relation: a triple (w, r, v) that may still force something
+pub record IsUnsettled (before : ℕ → ℕ → Type 0) (w r v : ℕ) : Type 0 where
+  pub not_after : ¬ before r v
+  pub not_earlier : ¬ before v w

@@ -10,5 +10,6 @@ decreases-next l = l.left.bits
 abbrev pub invariant-next : goal.invariant-next
 invariant-next l = record {
   known : (e : ℕ) → HasEvent l.left e → e < constrained_len l.self;
+  new : (e : ℕ) → HasEvent l.left e → ¬ HasEvent l.placed e;
   none : (e : ℕ) → e < constrained_len l.self → ¬ HasEvent l.left e → ¬ CanStandNext (ComesBefore l.self) (MayNotStand l.self) (HasEvent l.placed) e;
 }

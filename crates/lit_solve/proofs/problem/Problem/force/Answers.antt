@@ -1,4 +1,5 @@
-use Rattle.lit_solve.proofs.Words.{arith, box_of, EventSet, Forbids, IsForcedIn, List, refl, subst, ℕ}
+use Rattle.lit_solve.proofs.Words.{arith, box_of, EventSet, Forbids, Holds, IsForcedIn, List, refl, subst, ℕ}
+use Rattle.lit_order.specs.Forcing.{HasForcedCycle}
 use Rattle.lit_solve.proofs.FrameLemmas.{forced_exact, forced_sound, forced_whole, not_true}
 use Rattle.lit_solve.proofs.problem.Problem.force.Goals as goal
 
@@ -9,9 +10,10 @@ returns-clause-fixpoint c done =
     let forbidden = Forbids c.put_between.new.between in
     let is = c.synchronize.ensures in
     let triples = c.put_between.ensures.triples in
+    let acyclic : ¬ HasForcedCycle (Holds now.forced.rows) forbidden = λ cycle. c.force.ensures.cycle.1 cycle done in
     record {
-      exact = forced_exact box now _ is.contained is.exact forbidden triples refl c.force.ensures.len (c.force.ensures.pairs done);
-      acyclic = λ e f. c.force.ensures.cycle.1 (e, forced_whole box now now is.contained is.exact forbidden triples e e f) done;
+      exact = forced_exact box now _ is.contained is.exact forbidden triples acyclic refl c.force.ensures.len (c.force.ensures.pairs done);
+      acyclic = λ e f. acyclic (e, forced_whole box now now is.contained is.exact forbidden triples acyclic e e f);
       coherent = λ k r b w below at there. absurd (omega (arith, below));
     }
 
