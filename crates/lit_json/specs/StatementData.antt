@@ -61,7 +61,7 @@ abbrev mutual
       access_data (next_line lines) (codes "exchange") (count reg) window index true (item (count value) no_items)
   statement_data lines (CompareExchange reg window index expected value) =
       access_data (next_line lines) (codes "compareExchange") (count reg) window index true
-          (item (count expected) (item (count value) no_items))
+      (item (count expected) (item (count value) no_items))
   statement_data lines (If reg equal value body other) =
       if_data (next_line lines) reg equal value (array (statements_data (drop 1 lines) body))
       (array (statements_data (drop (statement_count body) (drop 1 lines)) other))

@@ -44,7 +44,7 @@ found_with [] c paths at earlier = absurd (let e = at in cc)
 found_with (p ∷ ps) zero paths at earlier =
     let same : p ≡ paths = (let e : Some p ≡ Some paths = at in cc) in
     ap (λ (o : Ordering). cond (is_eq o) (Some p) (find (is_chosen (decisions_of paths)) ps))
-        (ap (λ (q : List Path). compared (decisions_of q) (decisions_of paths)) same ∙ compared-same (decisions_of paths)) ∙ ap Some same
+    (ap (λ (q : List Path). compared (decisions_of q) (decisions_of paths)) same ∙ compared-same (decisions_of paths)) ∙ ap Some same
 found_with (p ∷ ps) (suc c) paths at earlier =
     ap (λ (o : Ordering). cond (is_eq o) (Some p) (find (is_chosen (decisions_of paths)) ps)) (earlier 0 p (omega arith) refl)
     ∙ found_with ps c paths at (λ i a less here. earlier (suc i) a (omega (arith, less)) here)
@@ -74,7 +74,7 @@ chosen_events t lists x candidate chosen =
     let on : map run_path x.runs ≡ paths = runs-on_paths t paths x chosen.combined candidate chosen.decided in
     ap (λ ds. events_of t.bytes (map (λ (path : Path). path.events) (unwrap_or (find (is_chosen ds) (combinations_of t)) []))) (sym chosen.decided)
     ∙ ap (λ found. events_of t.bytes (map (λ (path : Path). path.events) (unwrap_or found [])))
-        (found_with (combinations_of t) at.0 paths at.1 (λ i a less here. lists.rising i at.0 a paths less here at.1))
+    (found_with (combinations_of t) at.0 paths at.1 (λ i a less here. lists.rising i at.0 a paths less here at.1))
     ∙ ap (λ (ps : List Path). events_of t.bytes (map (λ (path : Path). path.events) ps)) (sym on)
     ∙ ap (events_of t.bytes) (maps (λ path. path.events) x.runs)
 
