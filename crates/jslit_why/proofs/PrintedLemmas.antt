@@ -1,5 +1,5 @@
 -- What is printed of an answer, and which status a failed read has.
-use Rattle.std.proofs.Common.{◌≡◌, ◌≤◌, Bool, List, Option, arith, refl, subst, ℕ}
+use Rattle.std.proofs.Common.{◌≡◌, ◌≤◌, Bool, List, Option, arith, refl, subst, sym, ℕ}
 use Rattle.std.specs.Io.KnownBytes.{Appends}
 use Rattle.lit_report.specs.Counted.{device_of}
 use Rattle.lit_report.specs.Writing.{AppendsBeginning}
@@ -11,7 +11,6 @@ use Rattle.jslit.specs.Answer.{status_of}
 use Rattle.jslit.specs.Devices.{IsReadFailure}
 use Rattle.jslit.specs.declared.fault.RunFault.{RunFault}
 use Rattle.jslit.specs.declared.fault.RunFault.TheVariants as faults
-use Rattle.jslit.proofs.Statuses.{has_begun}
 use Rattle.jslit_why.specs.Printed.{HasBegun, HasExplained}
 
 module _ {W : Type 0} (contents : W → Option (List ℕ)) (text : List ℕ) (asked : Asked) (answer : Answer) (found : Bool) (bytes : List ℕ)
@@ -29,11 +28,11 @@ module _ {W : Type 0} (contents : W → Option (List ℕ)) (text : List ℕ) (as
 
   -- a beginning of it
   pub begun : AppendsBeginning (contents (device_of old)) (contents (device_of new)) bytes → HasBegun contents text asked old new
-  begun some = (
-    found,
-    has_begun (IsReasonOn text asked found) (contents (device_of old)) (contents (device_of new)) answer.text.items reason
-        (subst (AppendsBeginning (contents (device_of old)) (contents (device_of new))) is some),
-  )
+  begun some =
+      let part = subst (AppendsBeginning (contents (device_of old)) (contents (device_of new))) is some in (
+        found,
+        record { answer = part.front; on = (part.rest, subst (IsReasonOn text asked found) (sym part.parts) reason); written = part.appended },
+      )
 
 -- a failed read has status 3 or 4
 pub failed_status : (before after : ℕ) (fault : RunFault) → IsReadFailure before after fault → 3 ≤ status_of fault
