@@ -1,0 +1,73 @@
+"""How a tool ends: with a status, a line that says why, and without a trace; and names as they may be printed."""
+import os
+import signal
+import sys
+
+from litmus.fault import Fault
+
+DEVICE, MEMORY = 4, 3  # statuses, as docs/COMMANDS.md has them
+
+
+class Stopped(BaseException):
+    """A signal has ended the tool."""
+
+
+def shown(name):
+    """A name of a file as it may be printed: what would move a terminal's cursor, or is no text, stands as its bytes."""
+    def sign_of(sign):
+        return sign if sign.isprintable() else "".join(f"\\x{byte:02x}" for byte in os.fsencode(sign))
+    return "".join(map(sign_of, str(name)))
+
+
+def write_nowhere(number):
+    """What Python still holds back for this output goes nowhere at its end, so that it can't fail there."""
+    nowhere = os.open(os.devnull, os.O_WRONLY)
+    os.dup2(nowhere, number)
+    os.close(nowhere)
+
+
+def say(line):
+    """A line on standard error, if that takes it."""
+    try:
+        print(line, file=sys.stderr, flush=True)
+    except (OSError, ValueError):
+        write_nowhere(2)
+
+
+def ended(tool, main):
+    """The status of a tool's main. A fault, or a device that fails, is one line; an output that nobody takes any more is none."""
+    try:
+        status = main(sys.argv[1:])
+        sys.stdout.flush()
+        return status
+    except Fault as fault:
+        say(f"{tool}: {fault}")
+        return fault.status
+    except MemoryError:
+        say(f"{tool}: out of memory")
+        return MEMORY
+    except BrokenPipeError:
+        write_nowhere(1)
+        return DEVICE
+    except OSError as error:
+        where = f"{shown(error.filename)}: " if error.filename is not None else ""
+        say(f"{tool}: {where}{error.strerror or error}")
+        write_nowhere(1)
+        return DEVICE
+
+
+def stop(number, _):
+    raise Stopped(number)
+
+
+def run(tool, main):
+    """Ends the process with the status of a tool's main, or by the signal that came. One that the caller ignores stays ignored."""
+    for number in (signal.SIGINT, signal.SIGTERM, signal.SIGHUP):
+        if signal.getsignal(number) != signal.SIG_IGN:
+            signal.signal(number, stop)
+    try:
+        sys.exit(ended(tool, main))
+    except Stopped as stopped:
+        write_nowhere(1)
+        signal.signal(stopped.args[0], signal.SIG_DFL)
+        os.kill(os.getpid(), stopped.args[0])
