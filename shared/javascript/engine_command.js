@@ -1,5 +1,5 @@
 'use strict';
-// The command jslit-engine; README.md describes it.
+// The command jslit-engine; docs/ENGINES.md describes it.
 
 const path = require('path');
 const { spawnSync } = require('child_process');

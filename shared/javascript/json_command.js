@@ -1,5 +1,5 @@
 'use strict';
-// The command jslit-json; README.md describes it.
+// The command jslit-json; docs/ENGINES.md describes it.
 
 const fs = require('fs');
 const { Failure, help, readWords, run } = require('./command.js');

@@ -170,7 +170,7 @@ function recorded(file, text, result) {
   const place = /^(?:[ \t]*\/\/[^\n]*\n)*/.exec(text)[0].length;
   if (text.length + line.length > limits.text) return result.fails(`with its line it would have more than ${limits.text} bytes`);
   try {
-    const target = fs.realpathSync(pathOf(file), { encoding: 'buffer' });
+    const target = fs.realpathSync.native(pathOf(file), { encoding: 'buffer' });
     const aside = Buffer.concat([target, Buffer.from(`.${process.pid}`)]);
     fs.writeFileSync(aside, text.slice(0, place) + line + text.slice(place), { encoding: 'latin1', flag: 'wx' });
     fs.chmodSync(aside, fs.statSync(target).mode & 0o7777);

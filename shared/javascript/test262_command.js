@@ -1,5 +1,5 @@
 'use strict';
-// The command jslit-test262; README.md describes it.
+// The command jslit-test262; docs/ENGINES.md describes it.
 
 const { testAndReport } = require('./allowed.js');
 const { Failure, JSLIT, grouped, help, oneFile, readWords, run } = require('./command.js');

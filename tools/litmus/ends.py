@@ -26,14 +26,6 @@ def write_nowhere(number):
     os.close(nowhere)
 
 
-def say(line):
-    """A line on standard error, if that takes it."""
-    try:
-        print(line, file=sys.stderr, flush=True)
-    except (OSError, ValueError):
-        write_nowhere(2)
-
-
 def ended(tool, main):
     """The status of a tool's main. A fault, or a device that fails, is one line; an output that nobody takes any more is none."""
     try:
@@ -41,17 +33,17 @@ def ended(tool, main):
         sys.stdout.flush()
         return status
     except Fault as fault:
-        say(f"{tool}: {fault}")
+        print(f"{tool}: {fault}", file=sys.stderr)
         return fault.status
     except MemoryError:
-        say(f"{tool}: out of memory")
+        print(f"{tool}: out of memory", file=sys.stderr)
         return MEMORY
     except BrokenPipeError:
         write_nowhere(1)
         return DEVICE
     except OSError as error:
         where = f"{shown(error.filename)}: " if error.filename is not None else ""
-        say(f"{tool}: {where}{error.strerror or error}")
+        print(f"{tool}: {where}{error.strerror or error}", file=sys.stderr)
         write_nowhere(1)
         return DEVICE
 

@@ -1,6 +1,6 @@
 'use strict';
-// Markdown as HTML, by Debian's node-marked: a list of texts as JSON on standard input, and the list of their HTML on standard output. What
-// is HTML in a text stays text.
+// Markdown as HTML, by Debian's node-marked; what is HTML in a text stays text. As a command, of a list of texts as JSON on standard input to the
+// list of their HTML on standard output.
 
 const fs = require('fs');
 const MARKED = '/usr/share/nodejs/marked/lib/marked.cjs';
@@ -13,4 +13,7 @@ const renderer = {
   table: (head, body) => `<div class="scroll"><table><thead>${head}</thead><tbody>${body}</tbody></table></div>\n`,
 };
 marked.use({ renderer });
-process.stdout.write(JSON.stringify(JSON.parse(fs.readFileSync(0, 'utf8')).map((text) => marked.parse(text))));
+const rendered = (text) => marked.parse(text);
+if (require.main === module) process.stdout.write(JSON.stringify(JSON.parse(fs.readFileSync(0, 'utf8')).map(rendered)));
+
+module.exports = { escaped, rendered };

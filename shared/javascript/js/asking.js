@@ -71,4 +71,4 @@ class Asked {
   }
 }
 
-module.exports = { Asked, JSLIT, WHY };
+module.exports = { Asked, JSLIT, WHY, reportOf };
