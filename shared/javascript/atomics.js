@@ -1,7 +1,7 @@
 'use strict';
 // The accesses of a text, of which some may go through Atomics or not, and the text with some of them doing so.
 
-const { Failure } = require('./failure.js');
+const { Failure } = require('./lines.js');
 const { builtProgram, tellText } = require('./programs.js');
 const { shown } = require('./system.js');
 const { eventsOf } = require('./text/tests.js');

@@ -22,17 +22,17 @@ async function told(results, words, junit) {
   const counts = { passed: 0, failed: 0, seen: 0 };
   const isData = words.tsv || words.json;
   const beside = isData ? process.stderr : process.stdout;
-  if (words.tsv) write(`${FIELDS.join('\t')}\n`);
+  if (words.tsv) await write(`${FIELDS.join('\t')}\n`);
   for await (const result of results) {
     counts[result.result] += 1;
-    if (isData) write(`${words.tsv ? result.tsv() : result.json()}\n`);
-    else if (words.paths.length || result.fault || result.notes?.length) write(`${lineOf(result)}\n`);
-    if (words.annotate && result.fault) write(`${annotation(result)}\n`, beside);
+    if (isData) await write(`${words.tsv ? result.tsv() : result.json()}\n`);
+    else if (words.paths.length || result.fault || result.notes?.length) await write(`${lineOf(result)}\n`);
+    if (words.annotate && result.fault) await write(`${annotation(result)}\n`, beside);
     junit?.take(result);
   }
   junit?.close();
   const seen = counts.seen ? `, ${counts.seen} without a line // expect` : '';
-  write(`${counts.passed} passed, ${counts.failed} failed${seen}\n`, beside);
+  await write(`${counts.passed} passed, ${counts.failed} failed${seen}\n`, beside);
   return Number(counts.failed > 0);
 }
 

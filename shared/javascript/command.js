@@ -7,8 +7,7 @@ const os = require('os');
 const path = require('path');
 const { spawn } = require('child_process');
 const { parseArgs } = require('util');
-const { Failure } = require('./failure.js');
-const { Fault, messageOf, plain } = require('./lines.js');
+const { Failure, Fault, messageOf, plain } = require('./lines.js');
 const { limits } = require('./limits.js');
 const { VARIABLE } = require('./processes.js');
 const { shown, strerror } = require('./system.js');
@@ -18,7 +17,6 @@ const { givenWords, pathOf } = require('./words.js');
 const TOP = path.resolve(__dirname, '..', '..');
 const JSLIT = path.join(TOP, 'bin', 'jslit');
 const SIGNALS = { SIGHUP: 129, SIGINT: 130, SIGQUIT: 131, SIGTERM: 143 };
-const QUIET = ['SIGHUP', 'SIGINT', 'SIGTERM'];
 const PATIENCE = 200;   // milliseconds between a signal to what was started and its end
 
 // The words of a command: options with a value each, flags (whose value is false here), lists of what an option is given again and again,
@@ -102,34 +100,25 @@ function start(command, words, stdio, mark = MARK) {
   return { child, ended };
 }
 
-// A command that says nothing of a signal ends by it, with all that it has started, or with this status. What its caller ignores, as
-// shared/bash/command.sh says, it ignores.
-function endAtSignals(status = null) {
-  for (const signal of QUIET) {
-    const isIgnored = (process.env.JSLIT_IGNORED ?? '').includes(signal);
-    process.removeAllListeners(signal).on(signal, () => {
-      if (isIgnored) return;
-      for (const child of children) stop(child, 'SIGTERM');
-      if (children.size > 0) Atomics.wait(new Int32Array(new SharedArrayBuffer(4)), 0, 0, PATIENCE);
+// At a signal all that was started ends, and then this process: with the signal's number, or where it is quiet by the signal itself or with
+// this status. What the caller of such a one ignores, as shared/bash/command.sh says, it ignores.
+function endAtSignals(isQuiet, status = null) {
+  const isIgnored = (signal) => isQuiet && (process.env.JSLIT_IGNORED ?? '').includes(signal);
+  for (const [signal, number] of Object.entries(SIGNALS).filter(([each]) => !isQuiet || each !== 'SIGQUIT')) {
+    const end = () => {
       for (const child of children) stop(child, 'SIGKILL');
-      if (status !== null) process.exit(status);
+      if (!isQuiet || status !== null) process.exit(status ?? number);
       process.removeAllListeners(signal);
       process.kill(process.pid, signal);
-    });
-  }
-}
-
-function stopAtSignals() {
-  for (const [signal, status] of Object.entries(SIGNALS)) {
-    process.on(signal, () => {
-      if (stopping) return;
+    };
+    process.removeAllListeners(signal).on(signal, () => {
+      if (stopping || isIgnored(signal)) return;
       stopping = true;
-      process.stderr.write(`${name}: stopped by ${signal}\n`);
       for (const child of children) stop(child, 'SIGTERM');
-      setTimeout(() => {
-        for (const child of children) stop(child, 'SIGKILL');
-        process.exit(status);
-      }, PATIENCE);
+      if (isQuiet && children.size > 0) Atomics.wait(new Int32Array(new SharedArrayBuffer(4)), 0, 0, PATIENCE);
+      if (isQuiet) return end();
+      process.stderr.write(`${name}: stopped by ${signal}\n`);
+      return setTimeout(end, PATIENCE);
     });
   }
 }
@@ -159,17 +148,25 @@ function readText(file) {
 let name = null;
 const nameOf = () => name;
 const usage = () => fs.readFileSync(path.join(TOP, 'docs', 'help', `${name}.txt`));
-const help = () => process.stdout.write(usage()) && 0;
-const tellVersion = async () => process.stdout.write(`${name} ${VERSION}\n`) && 0;
+const help = () => tellAll(usage());
+const tellVersion = async () => tellAll(`${name} ${VERSION}\n`);
+
+// All that a command has to say, and its status. A quiet one says nothing of an output that doesn't take that.
+let isAnswered = false;
+function tellAll(text) {
+  isAnswered = true;
+  process.stdout.write(text);
+  return 0;
+}
 
 // Runs a command's `main`, and ends with its status. One that starts no programs has none to stop, and a signal itself ends it. One that is
 // quiet says nothing of signals; one that is brief says no more of words than their fault.
 function run(command, main, { starts = true, isQuiet = false, isBrief = isQuiet } = {}) {
   name = command;
-  if (isQuiet) endAtSignals();
-  else if (starts) stopAtSignals();
+  if (isQuiet) process.stderr.on('error', () => {});
+  if (starts) endAtSignals(isQuiet);
   process.stdout.on('error', (error) => {
-    if (error.code !== 'EPIPE') process.stderr.write(`${name}: ${plain(messageOf(error))}\n`);
+    if (error.code !== 'EPIPE' && !(isQuiet && isAnswered)) process.stderr.write(`${name}: ${plain(messageOf(error))}\n`);
     process.exit(4);
   });
   const done = () => keeper?.stdin.end('done');

@@ -66,10 +66,10 @@ async function printFolder(program, limit, folder) {
     const { found, lines: [first, ...lines], status } = await answer(program, limit, files);
     counts[found] += 1;
     worst = Math.max(worst, status);
-    write(`${[`${printedName(name)}: ${first}`, ...lines.map((line) => `  ${line}`)].join('\n')}\n`);
+    await write(`${[`${printedName(name)}: ${first}`, ...lines.map((line) => `  ${line}`)].join('\n')}\n`);
   }
   const rest = counts.differ + counts.rest;
-  write(`${counts.allowed} allowed, ${counts['not allowed']} not allowed${rest ? `, ${rest} not compared` : ''}\n`);
+  await write(`${counts.allowed} allowed, ${counts['not allowed']} not allowed${rest ? `, ${rest} not compared` : ''}\n`);
   return worst;
 }
 
@@ -89,7 +89,7 @@ async function main(given) {
   if (paths.length === 1) return printFolder(await programOf(words.program), limit, paths[0]);
   const texts = textsIn(paths);
   const { found, lines } = await compared(await programOf(words.program), limit, texts);
-  write(`${lines.join('\n')}\n`);
+  await write(`${lines.join('\n')}\n`);
   return found === 'allowed' ? 0 : 1;
 }
 

@@ -96,9 +96,9 @@ async function main(given) {
     if (told.answer) tests.push(told);
     if (output !== null && told.answer) writeFile(output, told);
     const said = told.answer ? spoken(told.answer) : `no answer within ${short(words.limit)} seconds`;
-    write(isAlone && told.answer ? told.text : `${told.name}: ${told.cycle.map(wordOf).join(' ')}: ${said}\n`);
+    await write(isAlone && told.answer ? told.text : `${told.name}: ${told.cycle.map(wordOf).join(' ')}: ${said}\n`);
   }
-  if (!isAlone) write(countLines(tests).join(''));
+  if (!isAlone) await write(countLines(tests).join(''));
   return tests.length === wanted.length ? 0 : 5;
 }
 

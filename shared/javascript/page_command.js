@@ -30,7 +30,7 @@ async function main(given) {
     server.close();
     throw error;
   });
-  endAtSignals(0);
+  endAtSignals(true, 0);
   process.stdout.write(`http://127.0.0.1:${server.port}/\n`);
   server.serve(page);
   return 0;

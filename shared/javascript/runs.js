@@ -22,8 +22,8 @@ const [BEGINNING, END] = [4096, 256];   // signs of what a run prints that are k
 const FORM_OF_JSON = 1;   // docs/schemas/check.json
 const FIELDS = ['file', 'test', 'result', 'verdict', 'outcomes', 'data_race', 'seconds', 'fault', 'number', 'word', 'line'];
 
-// Writes a text, in which bytes of a name that are no UTF-8 stand as they are.
-const write = (text, stream = process.stdout) => stream.write(pathOf(text));
+// Writes a text, in which bytes of a name that are no UTF-8 stand as they are; gives when that is done.
+const write = (text, stream = process.stdout) => new Promise((done) => { stream.write(pathOf(text), () => done()); });
 
 // A name on one line, and without tabs or what would move a cursor.
 function printedName(name) {

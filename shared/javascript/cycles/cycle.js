@@ -1,7 +1,7 @@
 'use strict';
 // A cycle of edges: what it may be, its agents and its cells.
 
-const { Failure } = require('../failure.js');
+const { Failure } = require('../lines.js');
 const { edgeOf, isOrder, nameOf, sourceOf, wordOf } = require('./edges.js');
 
 const PLAIN = 'P1';

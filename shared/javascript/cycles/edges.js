@@ -3,7 +3,7 @@
 // Pod, Pos, Rfe, Fre or Coe, its source and its target. An access has three: its direction, W or R; its kind, P (plain), A (through Atomics)
 // or D (a DataView); and its bytes, 1 or 2.
 
-const { Failure } = require('../failure.js');
+const { Failure } = require('../lines.js');
 
 const ENDS = { Rfe: 'WR', Fre: 'RW', Coe: 'WW' };
 const ATOM = '([PAD])([bh]?)';

@@ -1,7 +1,7 @@
 'use strict';
 // All cycles of a vocabulary of edges, up to a number of edges, without those that are others turned on or renamed.
 
-const { Failure } = require('../failure.js');
+const { Failure } = require('../lines.js');
 const { faultOf } = require('./cycle.js');
 const { ATOM, atomOf, edgeOf, sourceOf, targetOf } = require('./edges.js');
 const { normal } = require('./families.js');

@@ -3,7 +3,7 @@
 // cell write 1, 2 and so on in the order of the cycle's edges, in each of their bytes; a load gets what the last store before it along
 // these edges left there, and else 0.
 
-const { Failure } = require('../failure.js');
+const { Failure } = require('../lines.js');
 const { limits } = require('../limits.js');
 const { agents, cells, stepsToSee } = require('./cycle.js');
 const { directionOf, kindOf, sizeOf, sourceOf, wordOf } = require('./edges.js');
