@@ -4,8 +4,7 @@ import shutil
 import subprocess
 import sys
 
-from litmus.ends import shown
-from litmus.fault import Fault
+from litmus.ends import Fault, shown
 from litmus.program import TOP, status_of
 
 

@@ -1,15 +1,30 @@
-"""How a tool ends: with a status, a line that says why, and without a trace; and names as they may be printed."""
+"""How a tool begins, with the words that its own text tells, and how it ends: with a status, a line that says why, and without a trace."""
+import argparse
 import os
 import signal
 import sys
 
-from litmus.fault import Fault
-
 DEVICE, MEMORY = 4, 3  # statuses, as docs/COMMANDS.md has them
+
+
+class Fault(Exception):
+    """What a tool says instead of doing its work, and the status with which it ends then."""
+
+    def __init__(self, said, status=1):
+        super().__init__(said)
+        self.status = status
 
 
 class Stopped(BaseException):
     """A signal has ended the tool."""
+
+
+class Words(argparse.ArgumentParser):
+    """The words of a tool whose own text is its help."""
+
+    def __init__(self, tool, text):
+        super().__init__(prog=tool, usage=argparse.SUPPRESS, add_help=False, allow_abbrev=False, formatter_class=argparse.RawDescriptionHelpFormatter)
+        self.add_argument("-h", "--help", action="version", version=text)
 
 
 def shown(name):

@@ -3,8 +3,7 @@ import pathlib
 import subprocess
 import sys
 
-from litmus.ends import shown
-from litmus.fault import Fault
+from litmus.ends import Fault, shown
 
 TOP = pathlib.Path(__file__).resolve().parent.parent.parent
 JSLIT = TOP / "bin" / "jslit"

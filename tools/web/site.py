@@ -3,7 +3,7 @@ import pathlib
 import subprocess
 import tempfile
 
-from litmus.fault import Fault
+from litmus.ends import Fault
 
 # Commands and files of Debian's packages that it is made by.
 NEEDS = ("node=nodejs", "/usr/share/nodejs/marked=node-marked", "/usr/share/nodejs/acorn/dist/acorn.js=node-acorn")
