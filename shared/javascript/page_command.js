@@ -5,7 +5,7 @@ const fs = require('fs');
 const path = require('path');
 const { Failure, TOP, endAtSignals, run, start } = require('./command.js');
 const { folder, number, readOptions } = require('./options.js');
-const { Server } = require('./server.js');
+const { serve } = require('./server.js');
 const { shown, strerror } = require('./system.js');
 
 const [INSTALLED, MADE] = [path.join(TOP, 'site'), path.join(TOP, 'out', 'site')];
@@ -23,16 +23,19 @@ async function main(given) {
   const words = readOptions(given, { port: number(/^[0-9]{1,5}$/, 0, 65535, 8460), site: folder() }, ['', 0, 0]);
   if (words === null) return 0;
   // The port comes before the page is made, so that nobody waits for one that can't be had.
-  const server = await Server.at(words.port).catch((error) => {
+  let found;
+  const server = await serve(words.port, new Promise((done) => { found = done; })).catch((error) => {
     throw new Failure(4, `port ${words.port}: ${strerror(error)}`);
   });
-  const page = await folderOf(words.site).catch((error) => {
+  try {
+    found(await folderOf(words.site));
+  } catch (error) {
     server.close();
+    server.closeAllConnections?.();
     throw error;
-  });
+  }
   endAtSignals(true, 0);
-  process.stdout.write(`http://127.0.0.1:${server.port}/\n`);
-  server.serve(page);
+  process.stdout.write(`http://127.0.0.1:${server.address().port}/\n`);
   return 0;
 }
 

@@ -19,37 +19,22 @@ function fileOf(folder, address) {
 }
 
 function answer(folder, { method, url }, response) {
-  const file = method === 'GET' || method === 'HEAD' ? fileOf(folder, url) : null;
+  const isAsked = method === 'GET' || method === 'HEAD';
+  const file = isAsked ? fileOf(folder, url) : null;
   // A site that is made anew is seen at once.
   const head = { Server: 'jslit', 'Cache-Control': 'no-cache' };
-  if (file === null) {
-    response.writeHead(method === 'GET' || method === 'HEAD' ? 404 : 501, head).end();
-    return;
-  }
+  if (file === null) return response.writeHead(isAsked ? 404 : 501, head).end();
   const { size, mtime } = fs.statSync(file);
   const type = TYPES[path.extname(file)] ?? 'application/octet-stream';
   response.writeHead(200, { ...head, 'Content-Type': type, 'Content-Length': size, 'Last-Modified': mtime.toUTCString() });
-  if (method === 'HEAD') response.end();
-  else fs.createReadStream(file).on('error', () => response.destroy()).pipe(response);
+  if (method === 'HEAD') return response.end();
+  return fs.createReadStream(file).on('error', () => response.destroy()).pipe(response);
 }
 
-class Server {
-  // Takes the port, before there is anything to serve.
-  static at(port) {
-    const made = new Server();
-    const isFound = new Promise((done) => { made.serve = done; });
-    made.server = http.createServer((request, response) => isFound.then((folder) => answer(folder, request, response)));
-    return new Promise((done, failed) => { made.server.on('error', failed).listen(port, '127.0.0.1', () => done(made)); });
-  }
-
-  get port() {
-    return this.server.address().port;
-  }
-
-  close() {
-    this.server.close();
-    this.server.closeAllConnections?.();
-  }
+// Takes a port, before there is anything to serve: `found` is a promise of the folder.
+function serve(port, found) {
+  const server = http.createServer((request, response) => found.then((folder) => answer(folder, request, response)));
+  return new Promise((done, failed) => { server.on('error', failed).listen(port, '127.0.0.1', () => done(server)); });
 }
 
-module.exports = { Server };
+module.exports = { serve };
