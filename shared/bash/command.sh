@@ -1,5 +1,5 @@
-# How a command of bin/ starts that is a script of Node: what each of them reads, whose own path is `self`. Where Node isn't there, a line says
-# so, and the status is 70.
+# How a command of bin/ starts that is a script of Node: what each of them reads, whose own path is `self`. Where Node isn't there, a line
+# says so, and the status is 70.
 name=${self##*/} top=${self%/*/*}
 . "$top/shared/bash/own.sh" || exit 70
 if ! command -v node >/dev/null; then

@@ -72,10 +72,11 @@ class Program {
   // The report of an ended run, where it is one.
   checked(name, report, run) {
     const status = statusOf(run);
-    if (status === 1 && report?.last.refused) throw new Failure(1, `${shown(name)}: refused ${report.last.refused}; jslit-explain says more`);
+    const { refused, verdict } = report?.last ?? {};
+    if (status === 1 && refused) throw new Failure(1, `${shown(name)}: refused ${refused}; jslit-explain says more`);
     if (status === 3) throw new Failure(3, `${shown(name)}: out of memory`);
-    if (status || !report?.last.verdict) throw silent(this.program, `${stripped(run.said) || `status ${status}, and no report`}, on ${name}`);
-    return report;
+    if (status === 0 && verdict) return report;
+    throw silent(this.program, `${stripped(run.said) || `status ${status}, and no report`}, on ${name}`);
   }
 }
 

@@ -26,7 +26,8 @@ class Accesses {
   // Those of the text in `data`, which stands in the file of this name.
   static async of(name, data) {
     const { test, fault } = await tellText(await builtProgram('jslit-text'), name, data);
-    if (test === null) throw new Failure(1, `${shown(name)}: refused ${fault.number} ${fault.word} line ${fault.line}; jslit-explain says more`);
+    const refused = fault && `refused ${fault.number} ${fault.word} line ${fault.line}`;
+    if (test === null) throw new Failure(1, `${shown(name)}: ${refused}; jslit-explain says more`);
     return new Accesses(data, test.agents.flatMap(({ statements }) => eventsOf(statements)).sort((one, other) => one.line - other.line));
   }
 

@@ -191,6 +191,6 @@ const isStopping = () => stopping;
 const grouped = (number) => String(number).replace(/\B(?=(?:[0-9]{3})+$)/g, ',');
 
 module.exports = {
-  Failure, JSLIT, MARK, TOP, bytesIn, endAtSignals, grouped, help, isStopping, makeFolder, nameOf, oneFile, readText, readWords, run, start, stop,
-  tellVersion,
+  Failure, JSLIT, MARK, TOP, bytesIn, endAtSignals, grouped, help, isStopping, makeFolder, nameOf, oneFile, readText, readWords, run,
+  start, stop, tellVersion,
 };

@@ -26,13 +26,14 @@ const textsIn = (names) => names.map((name) => [name, givenText(name)]);
 // What two texts are, each beside its file's name: `found`, and the lines that say why.
 async function compared(program, limit, texts) {
   const [before, after] = [await outcomesOf(program, limit, ...texts[0]), await outcomesOf(program, limit, ...texts[1])];
-  const only = [[before, after], [after, before]].map(([one, other]) => [one.name, one.registers.filter((each) => !other.registers.includes(each))])
-    .filter(([, registers]) => registers.length)
+  const only = [[before, after], [after, before]]
+    .map(([one, other]) => [one.name, one.registers.filter((each) => !other.registers.includes(each))]).filter(([, registers]) => registers.length)
     .map(([name, registers]) => shown(`${name} alone has the register${registers.length > 1 ? 's' : ''} ${registers.join(', ')}`));
   if (only.length) return { found: 'differ', lines: [`the registers differ: ${only.join('; ')}`] };
   const added = [...after.lines].filter(([values]) => !before.lines.has(values)).map(([, lines]) => lines);
   const found = added.length ? 'not allowed' : 'allowed';
-  return { found, lines: [`${found}: outcomes before ${before.lines.size}, after ${after.lines.size}, added ${added.length}`, ...added.flat()] };
+  const counts = `outcomes before ${before.lines.size}, after ${after.lines.size}, added ${added.length}`;
+  return { found, lines: [`${found}: ${counts}`, ...added.flat()] };
 }
 
 // The names of pairs, each with the files that are there of it.

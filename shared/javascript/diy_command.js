@@ -46,8 +46,8 @@ function writeFile(folder, { name, text: whole }) {
   const file = pathOf(`${folder}${folder === '/' ? '' : '/'}${name}.lit`.replace(/^\.\//, ''));
   fs.mkdirSync(pathOf(folder), { recursive: true });
   const isThere = fs.lstatSync(file, { throwIfNoEntry: false }) !== undefined;
-  const isOwn = isThere && fs.statSync(file, { throwIfNoEntry: false })?.isFile() && fs.readFileSync(file, 'utf8').replace(/\r\n?/g, '\n') === whole;
-  if (isThere && !isOwn) throw new Failure(1, `${shown(file)} is there, with another text`);
+  const isFile = isThere && fs.statSync(file, { throwIfNoEntry: false })?.isFile();
+  if (isThere && !(isFile && fs.readFileSync(file, 'utf8').replace(/\r\n?/g, '\n') === whole)) throw new Failure(1, `${shown(file)} is there, with another text`);
   fs.writeFileSync(file, whole);
 }
 

@@ -1,6 +1,6 @@
 'use strict';
-// Sets of accesses that are enough where they alone go through Atomics: for the verdict that a text has with all of them doing so, for no data
-// race, or for both. Whether a set is enough is asked of the program each time: nothing is taken to follow for a larger one.
+// Sets of accesses that are enough where they alone go through Atomics: for the verdict that a text has with all of them doing so, for no
+// data race, or for both. Whether a set is enough is asked of the program each time: nothing is taken to follow for a larger one.
 
 const { inOrder } = require('./pool.js');
 

@@ -35,7 +35,8 @@ class Junit {
 
   close() {
     const counts = `tests="${this.cases.length}" failures="${this.failed}" errors="0" time="${this.seconds.toFixed(4)}"`;
-    fs.writeSync(this.to, `<?xml version="1.0" encoding="UTF-8"?>\n<testsuite name="jslit-check" ${counts}>\n${this.cases.join('')}</testsuite>\n`);
+    const head = `<?xml version="1.0" encoding="UTF-8"?>\n<testsuite name="jslit-check" ${counts}>\n`;
+    fs.writeFileSync(this.to, `${head}${this.cases.join('')}</testsuite>\n`);
     fs.closeSync(this.to);
   }
 }

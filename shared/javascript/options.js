@@ -9,9 +9,8 @@ const { shown } = require('./system.js');
 const flag = (...apart) => ({ initial: false, apart });
 const text = () => ({ initial: null, of: (word) => word });
 // A folder's name, without what says nothing.
-const folder = () => ({
-  initial: null, of: (word) => `${word.startsWith('/') ? '/' : ''}${word.split('/').filter((part) => part && part !== '.').join('/')}` || '.',
-});
+const parts = (word) => word.split('/').filter((part) => part && part !== '.').join('/');
+const folder = () => ({ initial: null, of: (word) => `${word.startsWith('/') ? '/' : ''}${parts(word)}` || '.' });
 const seconds = (initial) => ({
   initial, of: (word, wrong) => (/^[0-9]{1,6}(\.[0-9]{1,6})?$/.test(word) && Number(word) ? Number(word)
     : wrong(`${word} is no number of seconds above 0`)),
@@ -31,7 +30,7 @@ function quoted(word) {
 
 // The option that a word names, known or not, with what stands behind its `=`; or null where it is a file's name.
 function optionIn(word, options) {
-  const isKnown = (name) => ['-h', '--help', '--version'].includes(name) || (name.startsWith('--') && Object.hasOwn(options, name.slice(2)));
+  const isKnown = (name) => ['-h', '--help', '--version', ...Object.keys(options).map((each) => `--${each}`)].includes(name);
   if (!/^-./s.test(word)) return null;
   const [name] = word.split('=', 1);
   if (isKnown(word)) return { name: word };
@@ -85,7 +84,8 @@ class Reading {
         if (took) at += 1;
       }
     }
-    if (!this.isAmong) this.rest.push(...given.slice(end).map((word, place) => ({ word, run: this.run, isFile: place > 0, isCut: place === 0 })));
+    const behind = this.isAmong ? [] : given.slice(end);
+    this.rest.push(...behind.map((word, place) => ({ word, run: this.run, isFile: place > 0, isCut: place === 0 })));
     return true;
   }
 

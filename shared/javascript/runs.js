@@ -129,7 +129,8 @@ class Runs {
 
   // Runs the program on a text; what is wrong, or null.
   async run(data, result) {
-    const of = result.file.endsWith('.js') ? [path.join(TOP, 'bin', 'jslit-js'), '--program', this.program, '--brief', '--', result.file] : [this.program];
+    const ofJavascript = [path.join(TOP, 'bin', 'jslit-js'), '--program', this.program, '--brief', '--', result.file];
+    const [command, ...words] = result.file.endsWith('.js') ? ofJavascript : [this.program];
     let [first, last] = ['', ''];
     const take = (piece) => {
       if (first.length < BEGINNING) first = (first + piece).slice(0, BEGINNING);
@@ -138,7 +139,7 @@ class Runs {
     const begun = performance.now();
     let run;
     try {
-      run = await runOf(of[0], of.slice(1), data, { limit: this.limit * 1000, take });
+      run = await runOf(command, words, data, { limit: this.limit * 1000, take });
     } catch (error) {
       return strerror(error.cause ?? error);
     }
@@ -146,7 +147,8 @@ class Runs {
     if (run.late) return `no report within ${short(this.limit)} seconds`;
     const [answer, refused] = [LAST.exec(last), REFUSED.exec(first)];
     if (refused) Object.assign(result, { number: Number(refused[1]), word: refused[2], line: refused[3] && Number(refused[3]) });
-    if (statusOf(run) || !answer) return `status ${statusOf(run)}, ${printedName(stripped(first + run.said).split('\n')[0] || 'no report')}`;
+    const [said] = stripped(first + run.said).split('\n');
+    if (statusOf(run) || !answer) return `status ${statusOf(run)}, ${printedName(said || 'no report')}`;
     Object.assign(result, { outcomes: Number(answer[1]), verdict: answer[2], data_race: answer[3] });
     return null;
   }

@@ -1,6 +1,6 @@
 'use strict';
-// The files that paths name: a file is itself, and a folder the .lit files in it and in its folders, by way of links too; each folder once, by
-// however many links it is reached.
+// The files that paths name: a file is itself, and a folder the .lit files in it and in its folders, by way of links too; each folder
+// once, by however many links it is reached.
 
 const fs = require('fs');
 const path = require('path');
@@ -52,7 +52,8 @@ function* filesIn(paths) {
 // The same folder by folder, as engines run them: what is there and can't be read is a file that fails.
 function inFolder(folder, seen) {
   try {
-    return namesIn(folder, seen).flatMap((name) => (isFolder(name) ? inFolder(name, seen) : name.endsWith('.lit') ? [path.normalize(name)] : []));
+    const own = (name) => (name.endsWith('.lit') ? [path.normalize(name)] : []);
+    return namesIn(folder, seen).flatMap((name) => (isFolder(name) ? inFolder(name, seen) : own(name)));
   } catch {
     return [path.normalize(folder)];
   }

@@ -23,7 +23,8 @@ class Words(argparse.ArgumentParser):
     """The words of a tool whose own text is its help."""
 
     def __init__(self, tool, text):
-        super().__init__(prog=tool, usage=argparse.SUPPRESS, add_help=False, allow_abbrev=False, formatter_class=argparse.RawDescriptionHelpFormatter)
+        as_it_is = argparse.RawDescriptionHelpFormatter
+        super().__init__(prog=tool, usage=argparse.SUPPRESS, add_help=False, allow_abbrev=False, formatter_class=as_it_is)
         self.add_argument("-h", "--help", action="version", version=text)
 
 

@@ -1,6 +1,6 @@
 'use strict';
-// The documents of the site: each as HTML, with the pictures in them. Their links lead to one another, and those to a test of litmus/ open it on
-// the page; what isn't there is no link. A litmus text or a program that stands in one has a link that opens it.
+// The documents of the site: each as HTML, with the pictures in them. Their links lead to one another, and those to a test of litmus/
+// open it on the page; what isn't there is no link. A litmus text or a program that stands in one has a link that opens it.
 
 const fs = require('fs');
 const path = require('path');
@@ -21,7 +21,7 @@ const WHOLE = { t: /^test \w+\nbytes \d+\nagent .*^check /ms, js: /^agents\(/m }
 const SIGNS = { amp: '&', lt: '<', gt: '>', quot: '"' };
 
 const isFile = (name) => fs.statSync(path.join(TOP, name), { throwIfNoEntry: false })?.isFile() === true;
-const unescaped = (text) => text.replace(/&(?:#(\d+)|(amp|lt|gt|quot));/g, (_, number, word) => (word ? SIGNS[word] : String.fromCharCode(number)));
+const unescaped = (text) => text.replace(/&(?:#(\d+)|(amp|lt|gt|quot));/g, (_, number, word) => SIGNS[word] ?? String.fromCharCode(number));
 
 // Where the site has a file of the repository, or a document as HTML; and its top, as seen from a document.
 const served = (name) => `doc/${name.replace(/\.md$/, '.html')}`;
@@ -82,9 +82,9 @@ ${opened(linked(rendered(fs.readFileSync(path.join(TOP, name), 'utf8')), name), 
 // The contents of each, by its name in the site.
 function documents() {
   const there = Object.keys(NAMES).filter(isFile);
-  const pictures = fs.readdirSync(path.join(TOP, 'docs')).filter((name) => PICTURES.includes(path.extname(name))).map((name) => `docs/${name}`);
+  const pictures = fs.readdirSync(path.join(TOP, 'docs')).filter((name) => PICTURES.includes(path.extname(name)));
   return Object.fromEntries([...there.map((name) => [served(name), framed(name, there)]),
-    ...pictures.map((name) => [served(name), fs.readFileSync(path.join(TOP, name))])]);
+    ...pictures.map((name) => [served(`docs/${name}`), fs.readFileSync(path.join(TOP, 'docs', name))])]);
 }
 
 module.exports = { documents };

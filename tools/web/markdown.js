@@ -1,6 +1,6 @@
 'use strict';
-// Markdown as HTML, by Debian's node-marked; what is HTML in a text stays text. As a command, of a list of texts as JSON on standard input to the
-// list of their HTML on standard output.
+// Markdown as HTML, by Debian's node-marked; what is HTML in a text stays text. As a command, of a list of texts as JSON on standard
+// input to the list of their HTML on standard output.
 
 const fs = require('fs');
 const MARKED = '/usr/share/nodejs/marked/lib/marked.cjs';

@@ -1,6 +1,6 @@
 'use strict';
-// Modules of JavaScript in files of their own, as Node loads them, put together for a browser: as one script, or, for the frame in which the
-// page's browser runs JavaScript from the editor, as texts in its worker's.
+// Modules of JavaScript in files of their own, as Node loads them, put together for a browser: as one script, or, for the frame in which
+// the page's browser runs JavaScript from the editor, as texts in its worker's.
 
 const crypto = require('crypto');
 const fs = require('fs');
@@ -20,8 +20,8 @@ function placesOf(place, text, instead) {
   return Object.fromEntries(names.map((name) => [name, instead[found(name)] ?? found(name)]));
 }
 
-// The texts of these modules and of all that they require, by their places in shared/. `given` has texts of some that stand nowhere, `instead`
-// the places of others that are taken in place of some.
+// The texts of these modules and of all that they require, by their places in shared/. `given` has texts of some that stand nowhere,
+// `instead` the places of others that are taken in place of some.
 function modules(entries, given, instead) {
   const found = {};
   const waiting = [...entries];
@@ -37,8 +37,8 @@ function modules(entries, given, instead) {
 
 // One script that does what this module does.
 function script(entry, given, instead) {
-  const defined = ([place, text]) => `${JSON.stringify(place)}: [${JSON.stringify(placesOf(place, text, instead))}, (require, module) => {\n`
-    + `${place.endsWith('.json') ? `module.exports = ${text};\n` : text}}],\n`;
+  const defined = ([place, text]) => `${JSON.stringify(place)}: [${JSON.stringify(placesOf(place, text, instead))}, `
+    + `(require, module) => {\n${place.endsWith('.json') ? `module.exports = ${text};\n` : text}}],\n`;
   return `((modules) => {
   const made = {};
   const load = (place) => {

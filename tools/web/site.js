@@ -1,6 +1,6 @@
 'use strict';
-// site.js FOLDER: writes the page into a folder as files, which any web server serves, of the WebAssembly module on standard input: the page itself
-// with the tests of the library in it, the engine, the frame in which JavaScript is run, and the documents.
+// site.js FOLDER: writes the page into a folder as files, which any web server serves, of the WebAssembly module on standard input: the
+// page itself with the tests of the library in it, the engine, the frame in which JavaScript is run, and the documents.
 
 const fs = require('fs');
 const path = require('path');
@@ -14,7 +14,9 @@ const PAGE = 'javascript/site';
 const PACKAGE = '../embed/npm/index.mjs';
 // Of a module over processes of the machine there is one over the engine in WebAssembly.
 const INSTEAD = { 'javascript/running.js': 'javascript/page/running.js' };
-const LICENCES = { 'LICENSE-MIT': `${TOP}/LICENSE-MIT`, 'LICENSE-APACHE': `${TOP}/LICENSE-APACHE`, 'LICENSE-acorn': '/usr/share/doc/node-acorn/copyright' };
+const LICENCES = {
+  'LICENSE-MIT': `${TOP}/LICENSE-MIT`, 'LICENSE-APACHE': `${TOP}/LICENSE-APACHE`, 'LICENSE-acorn': '/usr/share/doc/node-acorn/copyright',
+};
 
 // The script of the page.
 const page = () => script(`${PAGE}/page.js`, {
@@ -24,8 +26,8 @@ const page = () => script(`${PAGE}/page.js`, {
 // What answers: the module, and the script of the worker that calls it, with the package of npm as a script: a browser starts no worker of
 // modules where a page is a file.
 function engine(module) {
-  const own = `${read(SHARED, PACKAGE).replace(/^export /gm, '').replace(/import\.meta\.url/g, 'location')}\nmodule.exports = { Trap, load };\n`;
-  const given = { 'javascript/version.js': `module.exports = { VERSION: ${JSON.stringify(VERSION)} };\n`, [PACKAGE]: own };
+  const own = read(SHARED, PACKAGE).replace(/^export /gm, '').replace(/import\.meta\.url/g, 'location');
+  const given = { 'javascript/version.js': `module.exports = { VERSION: ${JSON.stringify(VERSION)} };\n`, [PACKAGE]: `${own}\nmodule.exports = { Trap, load };\n` };
   const worker = script('javascript/page/worker.js', given, INSTEAD);
   return `const engine = ${JSON.stringify({ module: module.toString('base64'), worker }, null, 1)};\n`;
 }
@@ -34,8 +36,8 @@ function engine(module) {
 function files(module) {
   const fixed = fs.readdirSync(path.join(SHARED, PAGE)).filter((name) => /\.(?:html|css|svg)$/.test(name));
   const copied = [...fixed.map((name) => [name, path.join(SHARED, PAGE, name)]), ...Object.entries(LICENCES)];
-  return { ...Object.fromEntries(copied.map(([name, from]) => [name, fs.readFileSync(from)])), 'page.js': page(), 'engine.js': engine(module),
-    'sandbox.html': sandbox(), ...documents() };
+  const made = { 'page.js': page(), 'engine.js': engine(module), 'sandbox.html': sandbox() };
+  return { ...Object.fromEntries(copied.map(([name, from]) => [name, fs.readFileSync(from)])), ...made, ...documents() };
 }
 
 for (const [name, data] of Object.entries(files(fs.readFileSync(0)))) {

@@ -57,8 +57,8 @@ function agents(edges) {
 // All places of a cycle from the one behind this on.
 const placesFrom = (edges, place) => edges.map((_, step) => (place + 1 + step) % edges.length);
 
-// Of each cell, which is a place in memory, its accesses by their places in the cycle and in the order of the edges between them; in a cycle of
-// one cell all of them, from one of its edges Pos on.
+// Of each cell, which is a place in memory, its accesses by their places in the cycle and in the order of the edges between them; in a
+// cycle of one cell all of them, from one of its edges Pos on.
 function cells(edges) {
   const ends = [...edges.keys()].filter((place) => nameOf(edges[place]) === 'Pod');
   if (ends.length === 0) return [oneCell(edges)];
@@ -72,7 +72,8 @@ function cells(edges) {
 // The accesses from that edge Pos on by which the fewest stores have to be seen in order; of several by the least edges.
 function oneCell(edges) {
   const ways = [...edges.keys()].filter((place) => nameOf(edges[place]) === 'Pos').map((place) => placesFrom(edges, place));
-  const rank = (way) => [String(stepsToSee(edges, way).length).padStart(3, '0'), ...way.map((place) => edges[place]), String(way[0]).padStart(3, '0')];
+  const digits = (number) => String(number).padStart(3, '0');
+  const rank = (way) => [digits(stepsToSee(edges, way).length), ...way.map((place) => edges[place]), digits(way[0])];
   return least(ways.map((way) => [rank(way), way]))[1];
 }
 

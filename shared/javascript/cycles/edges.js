@@ -1,7 +1,7 @@
 'use strict';
-// Edges of a cycle as diy7 has them: PodWR, PosRR, Rfe, Fre, Coe. An edge is a word of nine signs, so that edges are compared as words: its name,
-// Pod, Pos, Rfe, Fre or Coe, its source and its target. An access has three: its direction, W or R; its kind, P (plain), A (through Atomics)
-// or D (a DataView); and its bytes, 1 or 2.
+// Edges of a cycle as diy7 has them: PodWR, PosRR, Rfe, Fre, Coe. An edge is a word of nine signs, so that edges are compared as words:
+// its name, Pod, Pos, Rfe, Fre or Coe, its source and its target. An access has three: its direction, W or R; its kind, P (plain), A
+// (through Atomics) or D (a DataView); and its bytes, 1 or 2.
 
 const { Failure } = require('../lines.js');
 

@@ -58,7 +58,7 @@ function spelled(size, agents, asked) {
 
 function* permutations(list) {
   if (list.length === 0) yield [];
-  for (const [place, each] of list.entries()) for (const rest of permutations([...list.slice(0, place), ...list.slice(place + 1)])) yield [each, ...rest];
+  for (const each of list) for (const rest of permutations(list.filter((other) => other !== each))) yield [each, ...rest];
 }
 
 // The orders of agents in which those that are alike stand together.
@@ -67,8 +67,8 @@ function* orders([group, ...groups]) {
   else for (const rest of orders(groups)) for (const first of permutations(group)) yield [...first, ...rest];
 }
 
-// The same for tests that are the same up to names, and for no others; null for a test with an if, or with a condition that asks for more than
-// one outcome.
+// The same for tests that are the same up to names, and for no others; null for a test with an if, or with a condition that asks for more
+// than one outcome.
 function formOf({ bytes, agents, condition }) {
   const asked = members(condition);
   if (asked === null || agents.some(({ statements }) => statements.some(isIf))) return null;

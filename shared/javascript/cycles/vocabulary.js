@@ -29,14 +29,16 @@ function edgesOf(words, kinds) {
   return [...new Set(edges)].sort();
 }
 
-// Lists of edges, each of which begins where the one before it ends, the first where the last does, and none of which is less than the first.
+// Lists of edges, each of which begins where the one before it ends, the first where the last does, and none of which is less than the
+// first.
 function* closedWalks(edges, most) {
   const waiting = edges.map((edge) => [edge]);
   while (waiting.length) {
     const walk = waiting.pop();
     const end = targetOf(walk.at(-1));
     if (end === sourceOf(walk[0])) yield walk;
-    if (walk.length < most) waiting.push(...edges.filter((edge) => sourceOf(edge) === end && edge >= walk[0]).map((edge) => [...walk, edge]));
+    const next = walk.length < most ? edges.filter((edge) => sourceOf(edge) === end && edge >= walk[0]) : [];
+    waiting.push(...next.map((edge) => [...walk, edge]));
   }
 }
 

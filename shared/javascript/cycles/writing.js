@@ -1,7 +1,7 @@
 'use strict';
-// The litmus text of a cycle: its agents, the observers of the order of stores, and as its condition the outcome that it tells. The stores of a
-// cell write 1, 2 and so on in the order of the cycle's edges, in each of their bytes; a load gets what the last store before it along
-// these edges left there, and else 0.
+// The litmus text of a cycle: its agents, the observers of the order of stores, and as its condition the outcome that it tells. The
+// stores of a cell write 1, 2 and so on in the order of the cycle's edges, in each of their bytes; a load gets what the last store before
+// it along these edges left there, and else 0.
 
 const { Failure } = require('../lines.js');
 const { limits } = require('../limits.js');
@@ -20,7 +20,8 @@ function lineOf(access, first, value, register) {
     return { P: `U${bits}[${index}] = ${value}`, A: `Atomics.store(U${bits}, ${index}, ${value})`,
       D: `DV.setUint${bits}(${first}, ${value}${end})` }[kindOf(access)];
   }
-  return `r${register} = ${{ P: `U${bits}[${index}]`, A: `Atomics.load(U${bits}, ${index})`, D: `DV.getUint${bits}(${first}${end})` }[kindOf(access)]}`;
+  const loads = { P: `U${bits}[${index}]`, A: `Atomics.load(U${bits}, ${index})`, D: `DV.getUint${bits}(${first}${end})` };
+  return `r${register} = ${loads[kindOf(access)]}`;
 }
 
 const composed = (content) => content.reduce((sum, byte, place) => sum + byte * 256 ** place, 0);
@@ -52,7 +53,8 @@ class Cell {
 
   // What an observer sees, one load after the other.
   observed() {
-    return this.contents.slice(Math.min(...this.seen), Math.max(...this.seen) + 1).map((content) => composed(content.slice(0, sizeOf(this.observer()))));
+    const [first, last, size] = [Math.min(...this.seen), Math.max(...this.seen), sizeOf(this.observer())];
+    return this.contents.slice(first, last + 1).map((content) => composed(content.slice(0, size)));
   }
 }
 
@@ -82,15 +84,16 @@ class Writer {
     for (const [access, number, value] of accesses) {
       const [first, isView, size] = [number * this.width, kindOf(access) === 'D', sizeOf(access)];
       this.lines.push(lineOf(access, first, value, register));
-      statements.push({ kind: 'access', register: reads(access) ? register : null, atomic: kindOf(access) === 'A', view: isView ? 'DV' : `U${8 * size}`,
-        bits: 8 * size, place: isView ? first : first / size, values: reads(access) ? [] : [value] });
+      statements.push({ kind: 'access', register: reads(access) ? register : null, atomic: kindOf(access) === 'A', bits: 8 * size,
+        view: isView ? 'DV' : `U${8 * size}`, place: isView ? first : first / size, values: reads(access) ? [] : [value] });
       if (reads(access)) {
         this.members.push({ agent: name, register, equal: true, number: value });
         register += 1;
       }
     }
     if (register > limits.registers || this.agents.length > limits.agents) {
-      throw new Failure(1, `${this.cycle()}: it takes more than ${limits.agents} agents, or more than ${limits.registers} registers of one`);
+      const most = `more than ${limits.agents} agents, or more than ${limits.registers} registers of one`;
+      throw new Failure(1, `${this.cycle()}: it takes ${most}`);
     }
   }
 
