@@ -1,7 +1,6 @@
-# What checks in bash begin with: nothing of the caller's shells, a folder for their files, and a count of what passed.
-top=$(cd "$(dirname "${BASH_SOURCE[0]}")/../.." && pwd)
-. "$top/shared/bash/own.sh"
+# What checks in bash begin with: a folder for their files, and a count of what passed.
 set -eu
+top=$(cd "$(dirname "${BASH_SOURCE[0]}")/../.." && pwd)
 work=$(mktemp -d)
 trap 'rm -rf "$work"' EXIT
 passed=0
