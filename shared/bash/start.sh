@@ -3,8 +3,9 @@
 # In the repository the program is proved and built first where that is due, by tools/build-program; where it was installed
 # (libexec/, by tools/install) it runs as it is there. Words that ask for no text, such as --help, and words at fault are answered without
 # a build: docs/help/ has what --help prints. Where the program can't be had, a line on standard error says why, and the status is 70.
-. "$top/shared/bash/own.sh" && . "$top/shared/bash/words.sh" || exit
+set -u
 shopt -s execfail
+. "$top/shared/bash/own.sh" && . "$top/shared/bash/words.sh" || exit
 
 end_with() {
     trap - EXIT

@@ -1,9 +1,8 @@
 'use strict';
 // What the proved programs answer to commands: jslit by its report, jslit-text by what it says of a text, jslit-why by its JSON.
 
-const { Failure } = require('./failure.js');
 const { KeptReport } = require('./kept_report.js');
-const { plain } = require('./lines.js');
+const { Failure, plain } = require('./lines.js');
 const { runOf } = require('./running.js');
 const { Execution, fromWords } = require('./executions/execution.js');
 

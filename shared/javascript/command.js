@@ -7,16 +7,17 @@ const os = require('os');
 const path = require('path');
 const { spawn } = require('child_process');
 const { parseArgs } = require('util');
-const { Failure } = require('./failure.js');
-const { Fault, messageOf, plain } = require('./lines.js');
+const { Failure, Fault, messageOf, plain } = require('./lines.js');
 const { limits } = require('./limits.js');
 const { VARIABLE } = require('./processes.js');
+const { shown, strerror } = require('./system.js');
 const { VERSION } = require('./version.js');
 const { givenWords, pathOf } = require('./words.js');
 
 const TOP = path.resolve(__dirname, '..', '..');
 const JSLIT = path.join(TOP, 'bin', 'jslit');
 const SIGNALS = { SIGHUP: 129, SIGINT: 130, SIGQUIT: 131, SIGTERM: 143 };
+const PATIENCE = 200;   // milliseconds between a signal to what was started and its end
 
 // The words of a command: options with a value each, flags (whose value is false here), lists of what an option is given again and again,
 // and paths. Behind `--` all are paths.
@@ -52,12 +53,6 @@ const MARK = crypto.randomUUID();
 let stopping = false;
 let folder;
 let keeper;
-let areApart = true;
-
-// From now on children are in this process' own group: whoever started it ends that.
-function stayTogether() {
-  areApart = false;
-}
 
 // A folder for this run, which goes when it ends.
 function makeFolder() {
@@ -82,7 +77,7 @@ function keep() {
 
 function stop(child, signal) {
   try {
-    process.kill(areApart ? -child.pid : child.pid, signal);
+    process.kill(-child.pid, signal);
   } catch {
     // It has ended.
   }
@@ -91,8 +86,8 @@ function stop(child, signal) {
 // Starts a child; `ended` is a promise of its status and signal, or of why it could not be started. It comes once the
 // child's outputs are closed too, by all that have them.
 function start(command, words, stdio, mark = MARK) {
-  if (keeper === undefined && areApart) keep();
-  const child = spawn(command, words, { stdio, detached: areApart, env: { ...process.env, [VARIABLE]: mark } });
+  if (keeper === undefined) keep();
+  const child = spawn(command, words, { stdio, detached: true, env: { ...process.env, [VARIABLE]: mark } });
   if (child.pid !== undefined) children.add(child);
   const ended = new Promise((done) => {
     child.on('error', (error) => done({ error }));
@@ -105,57 +100,88 @@ function start(command, words, stdio, mark = MARK) {
   return { child, ended };
 }
 
-function stopAtSignals(name) {
-  for (const [signal, status] of Object.entries(SIGNALS)) {
-    process.on(signal, () => {
-      if (stopping) return;
+// At a signal all that was started ends, and then this process: with the signal's number, or where it is quiet by the signal itself or with
+// this status. What the caller of such a one ignores, as shared/bash/command.sh says, it ignores.
+function endAtSignals(isQuiet, status = null) {
+  const isIgnored = (signal) => isQuiet && (process.env.JSLIT_IGNORED ?? '').includes(signal);
+  for (const [signal, number] of Object.entries(SIGNALS).filter(([each]) => !isQuiet || each !== 'SIGQUIT')) {
+    const end = () => {
+      for (const child of children) stop(child, 'SIGKILL');
+      if (!isQuiet || status !== null) process.exit(status ?? number);
+      process.removeAllListeners(signal);
+      process.kill(process.pid, signal);
+    };
+    process.removeAllListeners(signal).on(signal, () => {
+      if (stopping || isIgnored(signal)) return;
       stopping = true;
-      process.stderr.write(`${name}: stopped by ${signal}\n`);
       for (const child of children) stop(child, 'SIGTERM');
-      setTimeout(() => {
-        for (const child of children) stop(child, 'SIGKILL');
-        process.exit(status);
-      }, 200);
+      if (isQuiet && children.size > 0) Atomics.wait(new Int32Array(new SharedArrayBuffer(4)), 0, 0, PATIENCE);
+      if (isQuiet) return end();
+      process.stderr.write(`${name}: stopped by ${signal}\n`);
+      return setTimeout(end, PATIENCE);
     });
   }
 }
 
 // The text in a file, up to one byte more than a text may have, as the program reads it.
-function readText(file) {
+function bytesIn(file) {
   const text = Buffer.alloc(limits.text + 1);
+  const from = fs.openSync(pathOf(file), 'r');
   let length = 0;
   try {
-    const from = fs.openSync(pathOf(file), 'r');
     for (let more = 1; more > 0 && length < text.length; length += more) more = fs.readSync(from, text, length, text.length - length);
+  } finally {
     fs.closeSync(from);
-  } catch (error) {
-    throw new Failure(4, `${plain(file)}: ${plain(messageOf(error))}`);
   }
   return text.subarray(0, length);
 }
 
-async function tellVersion(name) {
-  process.stdout.write(`${name} ${VERSION}\n`);
+function readText(file) {
+  try {
+    return bytesIn(file);
+  } catch (error) {
+    throw new Failure(4, `${plain(file)}: ${plain(messageOf(error))}`);
+  }
+}
+
+// What this command is called, its help, and its version.
+let name = null;
+const nameOf = () => name;
+const usage = () => fs.readFileSync(path.join(TOP, 'docs', 'help', `${name}.txt`));
+const help = () => tellAll(usage());
+const tellVersion = async () => tellAll(`${name} ${VERSION}\n`);
+
+// All that a command has to say, and its status. A quiet one says nothing of an output that doesn't take that.
+let isAnswered = false;
+function tellAll(text) {
+  isAnswered = true;
+  process.stdout.write(text);
   return 0;
 }
 
-// Runs a command's `main`, and ends with its status. One that starts no programs has none to stop, and a signal itself ends it.
-function run(name, usage, main, starts = true) {
-  if (starts) stopAtSignals(name);
+// Runs a command's `main`, and ends with its status. One that starts no programs has none to stop, and a signal itself ends it. One that is
+// quiet says nothing of signals; one that is brief says no more of words than their fault.
+function run(command, main, { starts = true, isQuiet = false, isBrief = isQuiet } = {}) {
+  name = command;
+  if (isQuiet) process.stderr.on('error', () => {});
+  if (starts) endAtSignals(isQuiet);
   process.stdout.on('error', (error) => {
-    if (error.code !== 'EPIPE') process.stderr.write(`${name}: ${plain(messageOf(error))}\n`);
+    if (error.code !== 'EPIPE' && !(isQuiet && isAnswered)) process.stderr.write(`${name}: ${plain(messageOf(error))}\n`);
     process.exit(4);
   });
   const done = () => keeper?.stdin.end('done');
   const words = givenWords();
-  const work = words.length === 1 && words[0] === '--version' ? tellVersion(name) : main(words);
+  const work = words.length === 1 && words[0] === '--version' ? tellVersion() : main(words);
   work.finally(() => stopping || done()).then((status) => {
     process.exitCode = status;
   }, (error) => {
     if (stopping) return;
-    process.stderr.write(`${name}: ${error instanceof Failure || error instanceof Fault ? error.message : error.stack}\n`);
-    if (error.status === 2) process.stderr.write(usage);
-    process.exitCode = error.status ?? (error instanceof Fault ? 1 : 70);
+    const isOfSystem = isQuiet && error.syscall !== undefined;
+    const where = error.path === undefined ? '' : `${shown(error.path)}: `;
+    const isTold = error instanceof Failure || error instanceof Fault;
+    process.stderr.write(`${name}: ${isOfSystem ? `${where}${strerror(error)}` : isTold ? error.message : error.stack}\n`);
+    if (error.status === 2 && !isBrief) process.stderr.write(usage());
+    process.exitCode = error.status ?? (isOfSystem ? 4 : error instanceof Fault ? 1 : 70);
   });
 }
 
@@ -165,5 +191,6 @@ const isStopping = () => stopping;
 const grouped = (number) => String(number).replace(/\B(?=(?:[0-9]{3})+$)/g, ',');
 
 module.exports = {
-  Failure, JSLIT, MARK, TOP, grouped, isStopping, makeFolder, oneFile, readText, readWords, run, start, stayTogether, stop,
+  Failure, JSLIT, MARK, TOP, bytesIn, endAtSignals, grouped, help, isStopping, makeFolder, nameOf, oneFile, readText, readWords, run,
+  start, stop, tellVersion,
 };

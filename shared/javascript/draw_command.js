@@ -2,56 +2,13 @@
 // The command jslit-draw.
 
 const path = require('path');
-const { Failure, TOP, readText, readWords, run, start } = require('./command.js');
+const { Failure, TOP, help, readText, readWords, run, start } = require('./command.js');
 const { conditionCode } = require('./code.js');
 const { Fault, plain } = require('./lines.js');
 const { builtProgram, namedProgram, reportOf, silent, tellText, tellWhy } = require('./programs.js');
 const scenes = require('./executions/scenes.js');
 const { printedOf } = require('./text/faults.js');
 
-const USAGE = `jslit-draw [--program PROGRAM] FILE [N | EVENT=SOURCE,.. ..]
-jslit-draw --why [--unmet] FILE
-jslit-draw --race FILE
-
-Draws an execution of the litmus test in FILE as a Graphviz graph on standard output: with N one with the report's N-th
-outcome, from 1; without it one with the first outcome that meets the condition. That is the report's example, or one that
-mixes the sources of its reads less, which the title says. Each agent is a column of its
-accesses as they stand in the text, with the init events above; neighbours among these are in one box where the same
-events read them. The number after # is the event's place in the memory-order, and \`= 7\` the value that it reads. A red
-edge leads from each source to the event that reads it, with the bytes that it gives; it is blue and dashed where the two
-are also in synchronizes-with. Grey edges are agent-order. A dotted orange line without an arrow joins two events that are
-in a data race in this execution, and the title says whether there are such; other executions of the test may have others.
-
-With sources in place of N, such as A.1=init[1] B.1=init[0], one for each byte read, it draws the least choice that has
-them, valid or not. With --why it draws the first attempt at an outcome that meets the condition, or with --unmet at one
-that doesn't, and where there is a valid execution with such an outcome that one. Of a choice that is refused there is no
-memory-order and no data race, the title names the clause, and what refuses it stands below, step by step: bold green edges
-are the steps by their numbers, thin ones those that other steps rest on. A red edge is bold where a byte may not come from there.
-With --race it draws the first valid execution with a data race, and its least racing pair bold.
-
-Of a file of JavaScript, FILE.js, it draws, by jslit-js, an execution of the first outcome that fails its check, or of the first.
-
-The report comes from PROGRAM, by default jslit; all that is shown of an execution from jslit-why.
-
-Options:
-  --program PROGRAM  the program
-  --why              why no execution meets the condition
-  --unmet            with --why: why none fails it
-  --race             the first data race
-  --help             prints this
-  --version          prints the version
-
-Exit status:
-  0   a graph was printed
-  1   there is nothing to draw, or the text is refused
-  2   the words are wrong
-  3   out of memory
-  4   the file can't be read, or the output failed
-  70  there is no program, or no node
-
-Example:
-  jslit-draw litmus/mpplain.lit | dot -Tsvg >mpplain.svg
-`;
 const ACCESS = '[A-Za-z0-9_]+\\.[0-9]+';
 const SOURCE = `(?:init\\[[0-9]+\\]|${ACCESS})`;
 const GIVEN = new RegExp(`^${ACCESS}=${SOURCE}(?:,${SOURCE})*$`);
@@ -134,11 +91,11 @@ async function drawScript({ file, program }) {
 
 async function main(given) {
   const words = parsed(given);
-  if (words.help) return process.stdout.write(USAGE) && 0;
+  if (words.help) return help();
   if (words.file.endsWith('.js') && !(words.sources || words.number || words.why || words.race)) return drawScript(words);
   const drawing = await drawingOf(words);
   process.stdout.write(`${drawing.laidOut().graph()}\n`);
   return 0;
 }
 
-run('jslit-draw', '', main);
+run('jslit-draw', main, { isBrief: true });

@@ -1,14 +1,14 @@
 'use strict';
-// The command jslit-engine; README.md describes it.
+// The command jslit-engine; docs/ENGINES.md describes it.
 
 const path = require('path');
 const { spawnSync } = require('child_process');
-const { isStopping, run } = require('./command.js');
+const { help, isStopping, run } = require('./command.js');
 const { Campaign } = require('./campaign.js');
 const { Log } = require('./campaign_log.js');
 const { runEngine } = require('./engine.js');
 const { Summary, brief, histogram } = require('./engine_print.js');
-const { USAGE, asked } = require('./engine_words.js');
+const { asked } = require('./engine_words.js');
 const { engineOf, machineOf } = require('./identity.js');
 const { lineOf } = require('./record.js');
 
@@ -27,7 +27,7 @@ async function main(given) {
   const status = ofJavascript(given);
   if (status !== null) return status;
   const words = asked(given);
-  if (words.help) return process.stdout.write(USAGE) && 0;
+  if (words.help) return help();
   const log = new Log(words.log);
   const engines = [];
   const asks = words.isOne && words.keep === null ? null : runEngine;
@@ -49,4 +49,4 @@ async function main(given) {
   return ORDER.find((status) => statuses.has(status)) ?? 0;
 }
 
-run('jslit-engine', USAGE, main);
+run('jslit-engine', main);

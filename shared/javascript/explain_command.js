@@ -3,7 +3,7 @@
 
 const fs = require('fs');
 const path = require('path');
-const { readText, run } = require('./command.js');
+const { help, readText, run } = require('./command.js');
 const { messageOf, plain } = require('./lines.js');
 const { notesOfReport, reported } = require('./noting.js');
 const { TOP, builtProgram, namedProgram, runOf, tellText } = require('./programs.js');
@@ -13,30 +13,6 @@ const { advice } = require('./text/refusals.js');
 const { adviceOnWords } = require('./text/command_words.js');
 const { pathOf } = require('./words.js');
 
-const USAGE = `jslit-explain [--program PROGRAM] [WORDS] FILE
-
-Runs the program, by default jslit, with these words, and where it refuses says on standard error at which token of the line,
-what could stand there, and what to write instead; and the same of the other faults, as the program refuses the text once the
-lines before are written so. Kinds and lines are the program's. It reads the text in FILE once, up to one
-byte more than a text may have, and gives the program what it has read. Without a FILE it reads the standard input anew, where
-that is a file: a pipe can't be read twice, and then nothing more is said.
-
-Options:
-  --program PROGRAM  the program
-  --input-failed     runs nothing, and says why FILE can't be read
-  --why              the program is jslit-why, with its words; nothing is said of what it doesn't refuse
-  --words-refused    runs nothing, and says which command may be meant
-  --notes            says of a text that isn't refused where it may not mean what one thinks: such as a register that is
-                     0 since nothing reads into it, or a comparison with a number that nobody can have read
-  --help             prints this
-  --version          prints the version
-
-The status is the program's; 5 where it neither refuses nor begins a report within ten seconds, 70 where there is no program, or no
-node.
-
-Example:
-  jslit-explain mine.lit
-`;
 const VALUED = ['--workers', '--cut', '--schedule', '--most', '--choice', '--from', '--condition'];
 const LIMIT = 10000;         // milliseconds until it refuses or begins a report
 const LIMIT_OF_NOTES = 2000; // for a report whose examples notes are about
@@ -186,7 +162,7 @@ async function main(given) {
   const isNamed = given[0] === '--program' && given.length > 1;
   let words = isNamed ? given.slice(2) : given;
   const program = async () => (isNamed ? namedProgram(given[1]) : builtProgram('jslit'));
-  if (words.length === 1 && (words[0] === '--help' || words[0] === '-h')) return process.stdout.write(USAGE) && 0;
+  if (words.length === 1 && (words[0] === '--help' || words[0] === '-h')) return help();
   const [mode] = words;
   if (['--input-failed', '--notes', '--why', '--words-refused'].includes(mode)) words = words.slice(1);
   if (mode === '--words-refused') {
@@ -212,4 +188,4 @@ async function main(given) {
   return explained(await program(), words.filter((_, place) => !places.includes(place)), name, schedule, mode !== '--why');
 }
 
-run('jslit-explain', USAGE, main);
+run('jslit-explain', main);

@@ -1,36 +1,12 @@
 'use strict';
-// The command jslit-json; README.md describes it.
+// The command jslit-json; docs/ENGINES.md describes it.
 
 const fs = require('fs');
-const { Failure, readWords, run } = require('./command.js');
+const { Failure, help, readWords, run } = require('./command.js');
 const { Fault, Writer, plain } = require('./lines.js');
 const { ReportReader, jsonWriter, linesOf, readReport, readReports } = require('./report.js');
 const { readJson, readJsonLines } = require('./json.js');
 const { pathOf } = require('./words.js');
-
-const USAGE = `jslit-json [--lines] [FILE ..]
-jslit-json --back [--lines] [FILE ..]
-
-Writes the JSON of what jslit printed, in FILE or on standard input, to standard output; with --back it writes what
-jslit printed from its JSON, byte for byte. With --lines, or with several FILEs, the JSON of each report is one line, and
-each input may have several reports, one after the other; one from a FILE has its name as "file".
-
-Options:
-  --lines     the JSON of each report on a line
-  --back      from JSON to what jslit printed
-  --help      prints this
-  --version   prints the version
-
-Exit status:
-  0   all was written
-  1   an input is no report, or no JSON of one: nothing after it is read
-  2   the words are wrong
-  4   a file can't be read, or the output fails
-  70  node isn't there
-
-Example:
-  jslit litmus/sb.lit | jslit-json
-`;
 
 async function forward(input, writer) {
   const text = jsonWriter();
@@ -76,7 +52,7 @@ function failureOf(error, file, isOne) {
 
 async function main(given) {
   const words = readWords(given, { back: false, lines: false });
-  if (words.help) return process.stdout.write(USAGE) && 0;
+  if (words.help) return help();
   const files = words.paths.length ? words.paths : [undefined];
   const lines = words.lines || files.length > 1;
   const act = lines ? (words.back ? backLines : forwardLines) : (words.back ? back : forward);
@@ -90,4 +66,4 @@ async function main(given) {
   return 0;
 }
 
-run('jslit-json', USAGE, main, false);
+run('jslit-json', main, { starts: false });

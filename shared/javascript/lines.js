@@ -1,9 +1,17 @@
 'use strict';
-// Lines of a stream, and a writer that waits for its stream, so that a long report is never held whole.
+// Lines of a stream, and a writer that waits for its stream, so that a long report is never held whole; and what is said instead.
 
 const LONGEST_LINE = 65536;
 
 class Fault extends Error {}
+
+// Why a command ends with a status other than 0.
+class Failure extends Error {
+  constructor(status, message) {
+    super(message);
+    this.status = status;
+  }
+}
 
 // A text as a terminal may be given it, on one line: control characters stand as numbers, and bytes that are no UTF-8 (words.js).
 const plain = (text) => String(text).replace(/[\x00-\x1f\x7f-\x9f\udc80-\udcff]/g, (sign) => (
@@ -61,4 +69,4 @@ class Writer {
   }
 }
 
-module.exports = { Fault, Writer, eachLine, messageOf, plain };
+module.exports = { Failure, Fault, Writer, eachLine, messageOf, plain };

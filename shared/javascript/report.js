@@ -1,6 +1,6 @@
 'use strict';
 // What jslit prints, as parts: a report begins, has outcomes and ends; anything else is one part. `ReportReader` makes
-// them of lines, and `linesOf` lines of them; `jsonOf` gives their JSON. README.md has the form.
+// them of lines, and `linesOf` lines of them; `jsonOf` gives their JSON. docs/ENGINES.md has the form.
 
 const { Fault, eachLine } = require('./lines.js');
 const { VERSION } = require('./version.js');

@@ -29,7 +29,7 @@ async function runOf(program, words, data, { limit = null, take = null } = {}) {
   child.stderr?.on('data', (piece) => { result.said = (result.said + piece.toString('latin1')).slice(0, SAID); });
   const { error, status, signal } = await ended;
   clearTimeout(clock);
-  if (error) throw new Failure(70, `${plain(program)}: ${plain(error.message)}`);
+  if (error) throw Object.assign(new Failure(70, `${plain(program)}: ${plain(error.message)}`), { cause: error });
   result.out = Buffer.concat(pieces).toString('latin1');
   return Object.assign(result, { status: result.late || !result.whole ? null : status, signal });
 }

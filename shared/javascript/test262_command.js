@@ -1,34 +1,11 @@
 'use strict';
-// The command jslit-test262; README.md describes it.
+// The command jslit-test262; docs/ENGINES.md describes it.
 
 const { testAndReport } = require('./allowed.js');
-const { Failure, JSLIT, grouped, oneFile, readWords, run } = require('./command.js');
+const { Failure, JSLIT, grouped, help, oneFile, readWords, run } = require('./command.js');
 const { agentCode, conditionCode, mixesSizes } = require('./code.js');
 const { accessesOf } = require('./text/tests.js');
 
-const USAGE = `jslit-test262 [--program PROGRAM] [--report FILE] FILE
-
-Writes the litmus test in FILE as a test in the form of test262 to standard output. What it allows is what PROGRAM
-reports, by default jslit, or what stands in the report that --report names. A test of more than 300 outcomes is
-written only where its verdict is never, and then checks the condition alone.
-
-Options:
-  --program PROGRAM  the program
-  --report FILE      a report of the test
-  --help             prints this
-  --version          prints the version
-
-Exit status:
-  0   the file was printed
-  1   the test has too many outcomes, or is refused, or its report is none
-  2   the words are wrong
-  3   memory was refused to the program
-  4   a file can't be read, or the output fails
-  70  the program isn't there or can't be run
-
-Example:
-  jslit-test262 litmus/sb.lit >sb.js
-`;
 const MOST_OUTCOMES = 300;
 
 // The text as lines of a YAML block in a comment, which it must not end; byte 13 ends a line of YAML, wherever it stands.
@@ -137,7 +114,7 @@ for (var number = 0; number < COPIES; number++) {
 
 async function main(given) {
   const words = readWords(given, { program: JSLIT, report: null });
-  if (words.help) return process.stdout.write(USAGE) && 0;
+  if (words.help) return help();
   const { text, test, allowed } = await testAndReport({ ...words, file: oneFile(words.paths) });
   if (allowed.count !== allowed.outcomes.length) {
     throw new Failure(1, `the report says ${allowed.count} outcomes, and has ${allowed.outcomes.length}`);
@@ -153,4 +130,4 @@ async function main(given) {
   return 0;
 }
 
-run('jslit-test262', USAGE, main);
+run('jslit-test262', main);

@@ -1,46 +1,70 @@
 'use strict';
-// The files that paths name: a file is itself, and a folder the .lit files in it and in its folders, by name, by way of links too;
-// each folder once, by however many links it is reached. What is there and can't be read is a file that fails.
+// The files that paths name: a file is itself, and a folder the .lit files in it and in its folders, by way of links too; each folder
+// once, by however many links it is reached.
 
 const fs = require('fs');
 const path = require('path');
 const { Failure } = require('./command.js');
 const { plain } = require('./lines.js');
+const { pathOf, wordOf } = require('./words.js');
 
-// What a name leads to, or undefined where it leads nowhere.
-function statOf(name) {
+const joined = (folder, name) => (folder.endsWith('/') ? folder + name : `${folder}/${name}`);
+const byName = (one, other) => (one < other ? -1 : Number(one > other));
+
+function isFolder(name) {
   try {
-    return fs.statSync(name);
+    return fs.statSync(pathOf(name)).isDirectory();
   } catch {
-    return undefined;
+    return false;
   }
 }
 
-function inFolder(folder, seen) {
-  const here = statOf(folder);
-  const key = here && `${here.dev}:${here.ino}`;
-  if (seen.has(key)) return [];
-  seen.add(key);
-  let names;
+// Takes note of a folder: the names in it in their order, each with the folder's, or none where it has been looked at before.
+function namesIn(folder, seen) {
+  const names = fs.readdirSync(pathOf(folder), { encoding: 'buffer' }).map((name) => joined(folder, wordOf(name))).sort(byName);
+  const { dev, ino } = fs.statSync(pathOf(folder));
+  if (seen.has(`${dev} ${ino}`)) return [];
+  seen.add(`${dev} ${ino}`);
+  return names;
+}
+
+// What has such a name in a folder and in those below it; those that can't be read go to `unread`.
+function testsBelow(folder, unread, seen = new Set()) {
+  let names = [];
   try {
-    names = fs.readdirSync(folder).sort();
+    names = namesIn(folder, seen);
   } catch {
-    return [folder];
+    unread.push(folder);
   }
-  return names.flatMap((name) => {
-    const inner = path.join(folder, name);
-    if (statOf(inner)?.isDirectory()) return inFolder(inner, seen);
-    return name.endsWith('.lit') ? [inner] : [];
-  });
+  return [...names.filter((name) => name.endsWith('.lit')), ...names.filter(isFolder).flatMap((name) => testsBelow(name, unread, seen))];
+}
+
+// The files by their whole names. A folder that has none, or can't be read, is a file that isn't there.
+function* filesIn(paths) {
+  for (const each of paths) {
+    const unread = [];
+    const found = isFolder(each) ? testsBelow(each, unread).sort(byName) : [each];
+    yield* found.length || unread.length ? found : [joined(each, '*.lit')];
+    yield* unread;
+  }
+}
+
+// The same folder by folder, as engines run them: what is there and can't be read is a file that fails.
+function inFolder(folder, seen) {
+  try {
+    const own = (name) => (name.endsWith('.lit') ? [path.normalize(name)] : []);
+    return namesIn(folder, seen).flatMap((name) => (isFolder(name) ? inFolder(name, seen) : own(name)));
+  } catch {
+    return [path.normalize(folder)];
+  }
 }
 
 function testsIn(paths) {
   return paths.flatMap((each) => {
-    if (!statOf(each)?.isDirectory()) return [each];
-    const found = inFolder(each, new Set());
+    const found = isFolder(each) ? inFolder(each, new Set()) : [each];
     if (found.length === 0) throw new Failure(1, `${plain(each)} has no .lit file`);
     return found;
   });
 }
 
-module.exports = { testsIn };
+module.exports = { filesIn, isFolder, testsIn };

@@ -28,4 +28,4 @@ function pathOf(word) {
     /[\udc80-\udcff]/.test(sign) ? Buffer.from([sign.charCodeAt(0) & 255]) : Buffer.from(sign, 'utf8'))));
 }
 
-module.exports = { givenWords, pathOf };
+module.exports = { givenWords, pathOf, wordOf };

@@ -4,9 +4,8 @@ import shutil
 import subprocess
 import sys
 
-from litmus.ends import shown
-from litmus.fault import Fault
-from litmus.program import TOP, Awaited
+from litmus.ends import Fault, shown
+from litmus.program import TOP, status_of
 
 
 def kit():
@@ -30,6 +29,6 @@ def need(*pairs):
 
 def proved(made, name):
     """What tools/build-program makes, of the sources as they stand: proved and built first where that is due."""
-    if Awaited(TOP / "tools" / "build-program", made, name, stdout=sys.stdout.fileno()).status:
+    if status_of(TOP / "tools" / "build-program", made, name, stdout=sys.stdout.fileno()):
         raise Fault(f"{shown(name)} can't be built")
     return made

@@ -14,7 +14,7 @@ import tempfile
 from building.kit import kit, ran
 from embedding import library
 from installing.place import New, replace
-from litmus.fault import Fault
+from litmus.ends import Fault
 from litmus.program import TOP, version
 
 NEEDS = ("wasm-opt=binaryen", "ar=binutils")

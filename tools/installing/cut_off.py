@@ -10,7 +10,7 @@ import sys
 
 sys.dont_write_bytecode = True
 TOOLS = pathlib.Path(__file__).resolve().parent.parent
-sys.path[:0] = [str(TOOLS), str(TOOLS.parent / "shared" / "python")]
+sys.path.insert(0, str(TOOLS))
 from installing.place import LIST, New, Place  # noqa: E402
 
 ONE = {"lib/jslit/bin/a": "#!/bin/sh\n", "lib/jslit/litmus/x.lit": "x", "lib/jslit/shared/old.py": "old", "bin/a": "-> ../lib/jslit/bin/a", "share/a.1": "1"}

@@ -11,8 +11,7 @@ import pathlib
 import shutil
 import stat
 
-from litmus.ends import shown
-from litmus.fault import Fault
+from litmus.ends import Fault, shown
 
 TREE = pathlib.PurePath("lib/jslit")
 LIST = TREE / "installed.json"

@@ -10,7 +10,7 @@ import tarfile
 import tempfile
 
 from installing.place import New, make_folder
-from litmus.fault import Fault
+from litmus.ends import Fault
 
 # Where Debian wants what stands elsewhere in an archive for every system.
 BY_DEBIAN = {"share/zsh/site-functions": "share/zsh/vendor-completions"}

@@ -3,8 +3,7 @@ import pathlib
 import tempfile
 
 from building.kit import kit, ran
-from litmus.ends import shown
-from litmus.fault import Fault
+from litmus.ends import Fault, shown
 from litmus.program import TOP
 
 NEEDS = ("cc=gcc", "/usr/lib/x86_64-linux-gnu/libc.a=libc6-dev")

@@ -6,7 +6,7 @@ import subprocess
 import time
 
 from installing.tree import cited
-from litmus.fault import Fault
+from litmus.ends import Fault
 from litmus.program import TOP, version
 
 HEAD = """jslit {version} of {date}, commit {commit}

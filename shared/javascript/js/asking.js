@@ -3,10 +3,12 @@
 
 const os = require('os');
 const path = require('path');
-const { Failure, JSLIT, TOP, start, stop } = require('../command.js');
+const { Failure, JSLIT, TOP } = require('../command.js');
 const { plain } = require('../lines.js');
+const { limited } = require('../pool.js');
 const { builtProgram } = require('../programs.js');
 const { ReportReader } = require('../report.js');
+const { runOf } = require('../running.js');
 
 const WHY = path.join(TOP, 'bin', 'jslit-why');
 const RUNS = Math.max(1, os.cpus().length);   // of the programs, at a time
@@ -26,7 +28,7 @@ function reportOf(printed) {
 
 class Asked {
   constructor({ program, why, limit }) {
-    Object.assign(this, { limit, free: RUNS, queue: [], count: 0 });
+    Object.assign(this, { limit, limited: limited(RUNS), count: 0 });
     const found = (name, path, own) => () => (path === own ? builtProgram(name) : path);
     this.programs = new Map([['jslit', found('jslit', program, JSLIT)], ['jslit-why', found('jslit-why', why, WHY)]]);
   }
@@ -49,39 +51,24 @@ class Asked {
     return { why: { refused: printed.trim() } };
   }
 
-  async turn(name, words, text) {
-    const program = await this.program(name);
-    if (this.free === 0) await new Promise((done) => this.queue.push(done));
-    this.free -= 1;
-    this.count += 1;
-    try {
-      return await this.printed(program, words, text);
-    } finally {
-      this.free += 1;
-      this.queue.shift()?.();
-    }
+  turn(name, words, text) {
+    return this.limited(async () => {
+      this.count += 1;
+      return this.printed(await this.program(name), words, text);
+    });
   }
 
   async printed(program, words, text) {
-    const { child, ended } = start(program, words, ['pipe', 'pipe', 'ignore']);
-    child.stdin?.on('error', () => {});
-    child.stdin?.end(text);
-    const pieces = [];
-    child.stdout?.on('data', (piece) => pieces.push(piece));
-    let late = false;
-    const clock = setTimeout(() => {
-      late = true;
-      stop(child, 'SIGKILL');
-    }, this.limit * 1000);
-    const { error, status, signal } = await ended;
-    clearTimeout(clock);
-    if (late) throw new Failure(5, `the program gave no report on a text within ${this.limit} seconds (--limit)`);
-    if (error) throw new Failure(70, `the program isn't run: ${plain(error.message)}`);
-    if (status === 3) throw new Failure(3, 'the program ran out of memory');
-    if (signal || (status !== 0 && status !== 1)) throw new Failure(70,
-      `${plain(program)} gave no report, and ended with ${signal || `status ${status}`}`);
-    return Buffer.concat(pieces).toString('latin1');
+    const run = await runOf(program, words, text, { limit: this.limit * 1000 }).catch(({ cause }) => {
+      throw new Failure(70, `the program isn't run: ${plain(cause.message)}`);
+    });
+    if (run.late) throw new Failure(5, `the program gave no report on a text within ${this.limit} seconds (--limit)`);
+    if (run.status === 3) throw new Failure(3, 'the program ran out of memory');
+    if (run.signal || (run.status !== 0 && run.status !== 1)) {
+      throw new Failure(70, `${plain(program)} gave no report, and ended with ${run.signal || `status ${run.status}`}`);
+    }
+    return run.out;
   }
 }
 
-module.exports = { Asked, JSLIT, WHY };
+module.exports = { Asked, JSLIT, WHY, reportOf };

@@ -3,16 +3,16 @@
 
 const fs = require('fs');
 const path = require('path');
-const { execFile } = require('child_process');
-const { ReportReader } = require('../../report.js');
+const { runOf } = require('../../running.js');
 const { answerOf, checkIn } = require('../answer.js');
+const { JSLIT, WHY: WHY_HERE, reportOf } = require('../asking.js');
 const { Exploring } = require('../explore.js');
 const { Limit, Refusal } = require('../refusal.js');
 const { Run, isRead, keyOf } = require('../run.js');
 const { Program, plant } = require('../trees.js');
 
-const WHY = process.env.JSLIT_WHY || path.resolve(__dirname, '..', '..', '..', '..', 'bin', 'jslit-why');
-const PROGRAM = process.env.JSLIT || path.resolve(__dirname, '..', '..', '..', '..', 'jslit');
+const WHY = process.env.JSLIT_WHY || WHY_HERE;
+const PROGRAM = process.env.JSLIT || JSLIT;
 const FOLDER = path.join(__dirname, '..', 'samples');
 // The values that a read of a small program may have, and what it chooses of.
 const domain = ({ op, count }) => (op === 'choice' ? Array.from({ length: count }, (_, place) => place) : [0, 1, 2, 3]);
@@ -25,37 +25,14 @@ const SAMPLES = fs.readdirSync(FOLDER).filter((each) => /^[\w-]+\.js$/.test(each
   return { name: each.slice(0, -3), file, use: isUsed ? use : null, source };
 });
 
-function ask(text, program = PROGRAM) {
-  return new Promise((done, failed) => {
-    const child = execFile(program, [], { encoding: 'latin1', maxBuffer: 2 ** 30 }, (_, printed) => {
-      const told = { registers: [], outcomes: [], race: false };
-      const reader = new ReportReader((part) => {
-        if (part.begins) told.registers = part.begins.registers;
-        else if (part.outcome) told.outcomes.push(part.outcome.values);
-        else if (part.ends) told.race = part.ends.data_race;
-        else failed(new Error(`${JSON.stringify(part.all)} of\n${text}`));
-      });
-      for (const line of printed.split('\n').slice(0, -1)) reader.line(line);
-      reader.line(null);
-      done(told);
-    });
-    child.stdin.end(text);
-  });
+async function ask(text, program = PROGRAM) {
+  const told = reportOf((await runOf(program, [], text)).out);
+  if (told.refused !== undefined) throw new Error(`refused ${told.refused} of\n${text}`);
+  return told;
 }
 
 // What jslit-why says of a text.
-function askWhy(text, words) {
-  return new Promise((done, failed) => {
-    const child = execFile(WHY, ['--json', ...words], { encoding: 'latin1', maxBuffer: 2 ** 30 }, (error, printed) => {
-      try {
-        done({ why: JSON.parse(printed) });
-      } catch {
-        failed(new Error(`${error ?? printed} of\n${text}`));
-      }
-    });
-    child.stdin.end(text);
-  });
-}
+const askWhy = async (text, words) => ({ why: JSON.parse((await runOf(WHY, ['--json', ...words], text)).out) });
 
 const programOf = (source, main = 'main.js') => new Program(new Map([[main, source]]), main);
 

@@ -1,0 +1,97 @@
+'use strict';
+// The command jslit-compare.
+
+const path = require('path');
+const { Program, givenText, programOf } = require('./asked.js');
+const { Failure, TOP, run, start } = require('./command.js');
+const { readOptions, seconds, text } = require('./options.js');
+const { printedName, write } = require('./runs.js');
+const { short, shown, statusOf } = require('./system.js');
+const { filesIn, isFolder } = require('./tests_in.js');
+
+const [BEFORE, AFTER] = ['.before.lit', '.after.lit'];
+
+// The registers of a text, by agent, and the lines of its outcomes, each by the values of the sorted registers.
+async function outcomesOf(program, limit, name, data) {
+  const { outcomes } = await new Program(program, limit).report(name, data, [], true);
+  const key = (values) => values.map(([register, value]) => `${register}=${BigInt(value)}`).sort().join(' ');
+  return {
+    name, registers: (outcomes[0]?.values ?? []).map(([register]) => register),
+    lines: new Map(outcomes.map(({ values, lines }) => [key(values), lines])),
+  };
+}
+
+const textsIn = (names) => names.map((name) => [name, givenText(name)]);
+
+// What two texts are, each beside its file's name: `found`, and the lines that say why.
+async function compared(program, limit, texts) {
+  const [before, after] = [await outcomesOf(program, limit, ...texts[0]), await outcomesOf(program, limit, ...texts[1])];
+  const only = [[before, after], [after, before]]
+    .map(([one, other]) => [one.name, one.registers.filter((each) => !other.registers.includes(each))]).filter(([, registers]) => registers.length)
+    .map(([name, registers]) => shown(`${name} alone has the register${registers.length > 1 ? 's' : ''} ${registers.join(', ')}`));
+  if (only.length) return { found: 'differ', lines: [`the registers differ: ${only.join('; ')}`] };
+  const added = [...after.lines].filter(([values]) => !before.lines.has(values)).map(([, lines]) => lines);
+  const found = added.length ? 'not allowed' : 'allowed';
+  const counts = `outcomes before ${before.lines.size}, after ${after.lines.size}, added ${added.length}`;
+  return { found, lines: [`${found}: ${counts}`, ...added.flat()] };
+}
+
+// The names of pairs, each with the files that are there of it.
+function pairsIn(folder) {
+  const pairs = new Map();
+  for (const file of filesIn([folder])) {
+    const end = [BEFORE, AFTER].find((each) => file.endsWith(each));
+    const name = end && file.slice(0, -end.length);
+    if (end) pairs.set(name, { ...pairs.get(name), [end]: file });
+  }
+  if (pairs.size === 0) throw new Failure(1, `${shown(folder)} has no pair NAME${BEFORE}, NAME${AFTER}`);
+  return [...pairs].sort(([one], [other]) => (one < other ? -1 : 1));
+}
+
+// What a pair of a folder is, the lines that say why, and the status.
+async function answer(program, limit, files) {
+  try {
+    if (Object.keys(files).length < 2) throw new Failure(1, `${shown(Object.values(files)[0])} stands alone`);
+    const told = await compared(program, limit, textsIn([files[BEFORE], files[AFTER]]));
+    return { ...told, status: told.found === 'allowed' ? 0 : 1 };
+  } catch (error) {
+    if (error instanceof Failure) return { found: 'rest', lines: [error.message], status: error.status };
+    throw error;
+  }
+}
+
+async function printFolder(program, limit, folder) {
+  const counts = { allowed: 0, 'not allowed': 0, differ: 0, rest: 0 };
+  let worst = 0;
+  for (const [name, files] of pairsIn(folder)) {
+    const { found, lines: [first, ...lines], status } = await answer(program, limit, files);
+    counts[found] += 1;
+    worst = Math.max(worst, status);
+    await write(`${[`${printedName(name)}: ${first}`, ...lines.map((line) => `  ${line}`)].join('\n')}\n`);
+  }
+  const rest = counts.differ + counts.rest;
+  await write(`${counts.allowed} allowed, ${counts['not allowed']} not allowed${rest ? `, ${rest} not compared` : ''}\n`);
+  return worst;
+}
+
+// What jslit-js says of two files of JavaScript.
+async function byJavascript({ program, limit, paths }) {
+  const words = ['--limit', short(limit), ...(program ? ['--program', program] : []), '--before', ...paths];
+  const { status, signal } = await start(path.join(TOP, 'bin', 'jslit-js'), words, 'inherit').ended;
+  return signal ? 128 - statusOf({ signal }) : status;
+}
+
+async function main(given) {
+  const words = readOptions(given, { program: text(), limit: seconds(60) }, ['paths', 1, Infinity]);
+  if (words === null) return 0;
+  const { paths, limit } = words;
+  if (paths.length > 2 || (paths.length === 1 && !isFolder(paths[0]))) words.wrong('give two files, or one folder');
+  if (paths.length === 2 && paths.every((each) => each.endsWith('.js'))) return byJavascript(words);
+  if (paths.length === 1) return printFolder(await programOf(words.program), limit, paths[0]);
+  const texts = textsIn(paths);
+  const { found, lines } = await compared(await programOf(words.program), limit, texts);
+  await write(`${lines.join('\n')}\n`);
+  return found === 'allowed' ? 0 : 1;
+}
+
+run('jslit-compare', main, { isQuiet: true });

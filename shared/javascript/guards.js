@@ -1,0 +1,83 @@
+'use strict';
+// Sets of accesses that are enough where they alone go through Atomics: for the verdict that a text has with all of them doing so, for no
+// data race, or for both. Whether a set is enough is asked of the program each time: nothing is taken to follow for a larger one.
+
+const { inOrder } = require('./pool.js');
+
+// What is asked of a text with some of its accesses through Atomics; each such text is asked once. `verdict` is that of the text with
+// all of them, or null where it isn't asked for, and `race` whether no data race is asked for: where it is not asked for alone, and the
+// text with all of them has one, it is `left`.
+class Question {
+  constructor(program, name, accesses) {
+    Object.assign(this, { program, name, accesses, known: new Map(), whole: [...accesses.free.keys()] });
+  }
+
+  async begun(asked) {
+    this.verdict = asked === 'race' ? null : await this.answer(this.whole, 'verdict');
+    this.left = asked === 'both' && await this.answer(this.whole, 'data race') === 'yes';
+    this.race = asked !== 'verdict' && !this.left;
+    return this;
+  }
+
+  // The verdict, or whether there is a data race.
+  async answer(lines, what) {
+    const key = `${what} ${lines}`;
+    if (!this.known.has(key)) {
+      const report = await this.program.report(this.name, this.accesses.textWith(lines), what === 'verdict' ? ['--quick'] : []);
+      this.known.set(key, report.last[what]);
+    }
+    return this.known.get(key);
+  }
+
+  async enough(lines) {
+    return (this.verdict === null || await this.answer(lines, 'verdict') === this.verdict)
+      && (!this.race || await this.answer(lines, 'data race') === 'no');
+  }
+
+  // What is asked for, in words.
+  wanted() {
+    return [this.verdict && `the verdict is ${this.verdict}`, this.race && 'there is no data race'].filter(Boolean).join(' and ');
+  }
+}
+
+// A set of which none can be given up: from all on, one is given up at a time in the order of the text. Null where all are not enough.
+async function givenUp(question) {
+  let [kept, before] = [question.whole, null];
+  if (!await question.enough(kept)) return null;
+  while (kept !== before) {
+    before = kept;
+    for (const line of before) {
+      const fewer = kept.filter((each) => each !== line);
+      if (await question.enough(fewer)) kept = fewer;
+    }
+  }
+  return kept;
+}
+
+// The sets of so many members, in the order of the text.
+function* combinations(members, size) {
+  if (size === 0) yield [];
+  for (const [place, first] of members.entries()) {
+    if (size > 0) for (const rest of combinations(members.slice(place + 1), size - 1)) yield [first, ...rest];
+  }
+}
+
+// The sets of the least size, size after size; `size` is the one that was begun last.
+class Search {
+  constructor(question, jobs) {
+    Object.assign(this, { question, jobs, size: 0 });
+  }
+
+  // All sets of the least size that are enough; an empty list where none is.
+  async least() {
+    for (this.size = 0; this.size <= this.question.whole.length; this.size += 1) {
+      const found = [];
+      const work = async (lines) => (await this.question.enough(lines) ? lines : null);
+      for await (const lines of inOrder(combinations(this.question.whole, this.size), this.jobs, work)) if (lines) found.push(lines);
+      if (found.length) return found;
+    }
+    return [];
+  }
+}
+
+module.exports = { Question, Search, givenUp };
