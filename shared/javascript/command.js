@@ -53,6 +53,12 @@ const MARK = crypto.randomUUID();
 let stopping = false;
 let folder;
 let keeper;
+let areApart = true;
+
+// From now on children are in this process' own group: whoever started it ends that.
+function stayTogether() {
+  areApart = false;
+}
 
 // A folder for this run, which goes when it ends.
 function makeFolder() {
@@ -77,7 +83,7 @@ function keep() {
 
 function stop(child, signal) {
   try {
-    process.kill(-child.pid, signal);
+    process.kill(areApart ? -child.pid : child.pid, signal);
   } catch {
     // It has ended.
   }
@@ -86,8 +92,8 @@ function stop(child, signal) {
 // Starts a child; `ended` is a promise of its status and signal, or of why it could not be started. It comes once the
 // child's outputs are closed too, by all that have them.
 function start(command, words, stdio, mark = MARK) {
-  if (keeper === undefined) keep();
-  const child = spawn(command, words, { stdio, detached: true, env: { ...process.env, [VARIABLE]: mark } });
+  if (keeper === undefined && areApart) keep();
+  const child = spawn(command, words, { stdio, detached: areApart, env: { ...process.env, [VARIABLE]: mark } });
   if (child.pid !== undefined) children.add(child);
   const ended = new Promise((done) => {
     child.on('error', (error) => done({ error }));
@@ -192,5 +198,5 @@ const grouped = (number) => String(number).replace(/\B(?=(?:[0-9]{3})+$)/g, ',')
 
 module.exports = {
   Failure, JSLIT, MARK, TOP, bytesIn, endAtSignals, grouped, help, isStopping, makeFolder, nameOf, oneFile, readText, readWords, run,
-  start, stop, tellVersion,
+  start, stayTogether, stop, tellVersion,
 };
