@@ -67,8 +67,10 @@ pub fn first_in(plan: &Plan<'_>, class: Class, from: u64, to: u64) -> Option<u64
     // For the prover: the plan's test is one that a text can say.
     let _test = plan.test();
     let mut next = from;
+    // Whichever it is opened with: it is reopened for each combination of the range.
+    let mut problem = Problem::open(&*plan, 0);
     while next < to {
-        let problem = Problem::open(&*plan, plan.combination(next));
+        problem.reopen(&*plan, plan.combination(next));
         let end = problem.combination().end().min(to);
         if let Some(first) = first_on(&problem, class, next, end) {
             return Some(first);
@@ -129,8 +131,10 @@ pub(crate) fn record<H: Heartbeat>(
     let _test = plan.test();
     let mut race = raced;
     let mut next = from;
+    // Whichever it is opened with: it is reopened for each combination of the range.
+    let mut problem = Problem::open(&*plan, 0);
     while next < to {
-        let problem = Problem::open(&*plan, plan.combination(next));
+        problem.reopen(&*plan, plan.combination(next));
         let end = problem.combination().end().min(to);
         race = record_on(alloc, &problem, table, heartbeat, race, next, end)?;
         next = end;

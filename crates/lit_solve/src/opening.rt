@@ -61,7 +61,24 @@ impl Problem<'_> {
         Some(left)
     }
 
-    /// The frame of a box, pruned and propagated until nothing more is forced. `None` if that refutes the box.
+    /// The frame of a box without empty domains, pruned and propagated until nothing more is forced. `None` if that refutes the box.
+    fn propagated(&self, domains: &Domains) -> Option<Frame>
+        requires is_box { IsBox (box_with self.now domains.now) }
+        requires some { ¬ HasEmptyDomain (box_with self.now domains.now) }
+        ensures fixpoint { IfSome result (λ frame. IsFixpoint (box_of self.now frame) frame) }
+        ensures prunes { IfSome result (λ frame. Prunes (box_with self.now domains.now) (box_of self.now frame)) }
+        ensures none { IfNone result (HasNoCompletion (box_with self.now domains.now)) }
+    {
+        completions_fill_each_read();
+        let mut frame = self.unpropagated(domains);
+        if self.propagate(&mut frame) && self.can_fill_each(&frame.domains) {
+            Some(frame)
+        } else {
+            None
+        }
+    }
+
+    /// The frame of a box, node consistent and propagated until nothing more is forced. `None` if that refutes the box.
     pub(crate) fn fixpoint(&self, domains: &Domains) -> Option<Frame>
         requires { IsBox (box_with self.now domains.now) }
         ensures fixpoint { IfSome result (λ frame. IsFixpoint (box_of self.now frame) frame) }
@@ -69,17 +86,12 @@ impl Problem<'_> {
         ensures none { IfNone result (HasNoCompletion (box_with self.now domains.now)) }
     {
         refuted_boxes_have_no_completion();
-        completions_fill_each_read();
         if self.has_false_unwritten() {
             return None;
         }
+        // A function pays at entry for what it may hold, and this mostly ends here: so what holds a frame is one of its own.
         let domains = self.consistent(domains)?;
-        let mut frame = self.unpropagated(&domains);
-        if self.propagate(&mut frame) && self.can_fill_each(&frame.domains) {
-            Some(frame)
-        } else {
-            None
-        }
+        self.propagated(&domains)
     }
 
     /// The sources in the domain of the byte read at a place.

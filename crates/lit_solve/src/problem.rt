@@ -1,17 +1,42 @@
 //! A combination as a constraint satisfaction problem: what all its boxes share.
 
-ghost use Rattle.std.specs.Prelude.{◌≡◌, ℕ, ◌<◌, ◌≤◌, Some, length, slice_get};
+ghost use Rattle.std.specs.Prelude.{◌≡◌, ℕ, ◌<◌, ◌≤◌, IsFalse, Some, length, slice_get};
 ghost use Rattle.lit_paths.specs.ByteReads.{byte_read_at, byte_reads, pair_of};
 ghost use Rattle.lit_paths.specs.Choice.{combinations_of};
-ghost use Rattle.lit_paths.specs.Plan.{AreEventsIn};
+ghost use Rattle.lit_paths.specs.Plan.{AreEventsIn, path_in};
 ghost use Rattle.lit_paths.specs.declared.limits.TheConstants.{BYTE_READ_LIMIT};
 ghost use Rattle.lit_solve.specs.Box.{events_on};
+ghost use Rattle.lit_solve.specs.Internal.Frames.{AreCandidates};
 
 use crate::domains::{Domains, candidates_of};
 use lit_paths::{BYTE_READ_LIMIT, ByteRead, Combination, Event, Plan};
 use lit_rel::laws::byte_reads_are_of_events;
 use lit_rel::{EventSet, Rows, peers_of};
 use std::marker::Model;
+
+/// Overwrites `candidates` with all candidates of each byte read of a combination.
+fn put_candidates(combination: &Combination<'_>, candidates: &mut Domains)
+    ensures { AreCandidates (events_on combination.now) candidates.new }
+{
+    // For the prover: a combination has few byte reads.
+    let _events = combination.events();
+    for place in 0..combination.byte_reads().len() {
+        candidates[place] = candidates_of(combination, place);
+    }
+}
+
+/// Whether some path of a combination has a guard.
+fn has_guard(combination: &Combination<'_>) -> bool
+    ensures { IsFalse result → (i : ℕ) → i < length combination.now.0.agents
+        → length (path_in combination.now.0 combination.now.1 i).tests ≡ 0 }
+{
+    for agent in 0..combination.test().agents() {
+        if !combination.path(agent).tests().is_empty() {
+            return true;
+        }
+    }
+    false
+}
 
 /// A combination of paths as a constraint satisfaction problem: its byte reads are the variables. A clause sees it as the test's value
 /// and the combination's number.
@@ -55,13 +80,8 @@ impl<'p> Problem<'p> {
         let combination = plan.enter(combination);
         let peers = peers_of(combination.events());
         let mut candidates = [EventSet::new(); BYTE_READ_LIMIT];
-        for place in 0..combination.byte_reads().len() {
-            candidates[place] = candidates_of(&combination, place);
-        }
-        let mut guarded = false;
-        for agent in 0..combination.test().agents() {
-            guarded |= !combination.path(agent).tests().is_empty();
-        }
+        put_candidates(&combination, &mut candidates);
+        let guarded = has_guard(&combination);
         Problem {
             combination,
             candidates,
@@ -69,6 +89,21 @@ impl<'p> Problem<'p> {
             names: plan.names(),
             guarded,
         }
+    }
+
+    /// Makes it the problem of a combination of a plan's test, by its number, below `combinations`, in place: to open one takes longer,
+    /// since that makes a new value as large as a problem.
+    pub fn reopen(&mut self, plan: &'p Plan<'p>, combination: usize)
+        requires { combination < length (combinations_of plan.now) }
+        ensures { self.new ≡ (plan.now, combination) }
+    {
+        // For the prover: the plan's test is one that a text can say.
+        let _test = plan.test();
+        plan.reenter(&mut self.combination, combination);
+        self.peers = peers_of(self.combination.events());
+        put_candidates(&self.combination, &mut self.candidates);
+        self.guarded = has_guard(&self.combination);
+        self.names = plan.names();
     }
 
     /// The combination.
