@@ -67,7 +67,9 @@ pub fn first_in(plan: &Plan<'_>, class: Class, from: u64, to: u64) -> Option<u64
     // For the prover: the plan's test is one that a text can say.
     let _test = plan.test();
     let mut next = from;
-    // Whichever it is opened with: it is reopened for each combination of the range.
+    // For the prover: there is a combination.
+    let _combinations = plan.combinations();
+    // It is opened with any combination, and reopened with each of the range.
     let mut problem = Problem::open(&*plan, 0);
     while next < to {
         problem.reopen(&*plan, plan.combination(next));
@@ -131,7 +133,9 @@ pub(crate) fn record<H: Heartbeat>(
     let _test = plan.test();
     let mut race = raced;
     let mut next = from;
-    // Whichever it is opened with: it is reopened for each combination of the range.
+    // For the prover: there is a combination.
+    let _combinations = plan.combinations();
+    // It is opened with any combination, and reopened with each of the range.
     let mut problem = Problem::open(&*plan, 0);
     while next < to {
         problem.reopen(&*plan, plan.combination(next));

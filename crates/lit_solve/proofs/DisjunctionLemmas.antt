@@ -37,6 +37,9 @@ ordered_before box k r b is_read rows sound e each sources lie = by all.1
 pub given_ordered : (box : Box) (frame : Frame) → IsContained box frame → (e d : ℕ) → Holds frame.happens_before.rows e d → IsOrderedIn box e d
 given_ordered box frame is e d h sources lie = (grows_in box sources lie).happens_before e d (is.before_in e d h)
 
+pub given_sound : (box : Box) (frame : Frame) → IsContained box frame → IsOrderOfBox box frame.happens_before.rows
+given_sound box frame is = record { len = is.before_len; ordered = given_ordered box frame is }
+
 -- a possible data race is one by fewer pairs
 pub race_by_order : (box : Box) (before : ℕ → ℕ → Type 0) → ((e d : ℕ) → before e d → IsOrderedIn box e d) → MayRaceIn box → RacesIn box before false
 race_by_order box before within =

@@ -1,7 +1,7 @@
 //! Constructive disjunction: the pairs of happens-before (ECMA-262, 2024, 29.6.6) that all sources in the domains of a frame have in
 //! common (decision 187).
 
-ghost use Rattle.std.specs.Prelude.{◌≡◌, ◌⊎◌, ℕ, ◌<◌, IfSome, IsFalse, IsTrue, length};
+ghost use Rattle.std.specs.Prelude.{◌≡◌, ◌⊎◌, ℕ, ◌<◌, IsFalse, IsTrue, length};
 ghost use Rattle.lit_paths.specs.ByteReads.{byte_read_at, byte_reads};
 ghost use Rattle.lit_paths.specs.Event.{event_at as event_of};
 ghost use Rattle.lit_rel.specs.Coherent.{IsCoherentRead};
@@ -77,22 +77,22 @@ impl Problem<'_> {
         adds
     }
 
-    /// Happens-before with pairs that all sources in the domains of a frame order, if there are any more. A pair of one byte read can lead
-    /// to one of another, so that each pass goes over all of them.
-    pub(crate) fn ordered(&self, frame: &Frame) -> Option<TwoWayRows>
-        requires { IsContained (box_of self.now frame.now) frame.now }
-        ensures { IfSome result (λ ordered. IsOrderOfBox (box_of self.now frame.now) ordered.rows) }
+    /// Adds to a relation that all sources in the domains of a frame order the pairs more that they order. Answers whether there are any. A
+    /// pair of one byte read can lead to one of another, so that each pass goes over all of them.
+    pub(crate) fn put_all_ordered(&self, frame: &Frame, ordered: &mut TwoWayRows) -> bool
+        requires contained { IsContained (box_of self.now frame.now) frame.now }
+        requires sound { IsOrderOfBox (box_of self.now frame.now) ordered.old.rows }
+        ensures { IsOrderOfBox (box_of self.now frame.now) ordered.new.rows }
     {
-        let mut ordered = frame.happens_before;
-        if !self.put_each_ordered(frame, &mut ordered) {
-            return None;
+        if !self.put_each_ordered(frame, ordered) {
+            return false;
         }
         for _pass in 0..self.reads() {
-            if !self.put_each_ordered(frame, &mut ordered) {
-                return Some(ordered);
+            if !self.put_each_ordered(frame, ordered) {
+                return true;
             }
         }
-        Some(ordered)
+        true
     }
 
     /// Whether a source in the domain at a place is coherent for its read, by an acyclic relation.
@@ -117,21 +117,19 @@ impl Problem<'_> {
         false
     }
 
-    /// Whether what all sources in the domains of a frame order shows that it is infeasible: it has a cycle, or no source of some byte
-    /// read is coherent.
-    pub(crate) fn is_disordered(&self, frame: &Frame) -> bool
-        requires { IsContained (box_of self.now frame.now) frame.now }
+    /// Whether a relation that all sources in the domains of a frame order shows that it is infeasible: it has a cycle, or no source of some
+    /// byte read is coherent.
+    pub(crate) fn is_disordered(&self, frame: &Frame, ordered: &TwoWayRows) -> bool
+        requires contained { IsContained (box_of self.now frame.now) frame.now }
+        requires sound { IsOrderOfBox (box_of self.now frame.now) ordered.now.rows }
         ensures { IsTrue result → HasNoCompletion (box_of self.now frame.now) }
     {
         laws_below();
-        let Some(ordered) = self.ordered(frame) else {
-            return false;
-        };
         if ordered.rows.has_cycle() {
             return true;
         }
         for place in 0..self.reads() {
-            if !self.has_coherent(frame, &ordered, place) {
+            if !self.has_coherent(frame, ordered, place) {
                 return true;
             }
         }

@@ -8,7 +8,6 @@ ghost use Rattle.lit_rel.specs.Rows.{Holds};
 ghost use Rattle.lit_solve.specs.Box.{HasEmptyDomain, HasSource, IsBox, box_with, events_on};
 ghost use Rattle.lit_solve.specs.Completion.{HasSolution};
 ghost use Rattle.lit_solve.specs.Fill.{CanFill, IsLeaf};
-ghost use Rattle.lit_solve.specs.DataRace.{MayRaceIn};
 ghost use Rattle.lit_solve.specs.declared.goal.Goal.TheVariants.{Any};
 ghost use Rattle.lit_solve.specs.Internal.Frames.{IsContained, box_of};
 ghost use Rattle.lit_solve.specs.Internal.Independent.{HasLeastOrderIn, IsIndependent};
@@ -137,20 +136,5 @@ impl Problem<'_> {
             }
         }
         self.has_racing_writes(before)
-    }
-
-    /// Whether a frame may have a data race, by what all sources in its domains order. It is mostly enough to ask what those that are
-    /// given order.
-    pub(crate) fn may_race(&self, frame: &Frame) -> bool
-        requires { IsContained (box_of self.now frame.now) frame.now }
-        ensures { MayRaceIn (box_of self.now frame.now) → IsTrue result }
-    {
-        if !self.races(frame, &frame.happens_before.rows, false) {
-            return false;
-        }
-        match self.ordered(frame) {
-            Some(ordered) => self.races(frame, &ordered.rows, false),
-            None => true,
-        }
     }
 }

@@ -6,6 +6,7 @@ ghost use Rattle.lit_rel.specs.EventSet.{HasEvent};
 ghost use Rattle.lit_solve.specs.Internal.ConditionValues.{IsProspect};
 ghost use Rattle.lit_solve.specs.Box.{box_with, events_on};
 ghost use Rattle.lit_solve.specs.Internal.Frames.{box_of};
+ghost use Rattle.lit_solve.specs.Internal.Leaves.{IsOrderOfBox};
 ghost use Rattle.lit_solve.specs.Internal.Searching.{GoesWith, IsStep};
 ghost use Rattle.lit_solve.specs.Internal.Fixpoint.{IsFixpoint};
 
@@ -14,7 +15,7 @@ use crate::frame::Frame;
 use crate::goal::{Goal, Prospect};
 use crate::laws::boxes_bound_races;
 use crate::problem::Problem;
-use lit_rel::EventSet;
+use lit_rel::{EventSet, Rows};
 use lit_valid::laws::laws_below;
 
 /// A byte read on whose domain the search branches.
@@ -38,9 +39,10 @@ pub(crate) enum Step {
 }
 
 impl Problem<'_> {
-    /// What a frame says of a goal before the search branches.
-    pub(crate) fn prospect(&self, frame: &Frame, goal: Goal) -> Prospect
-        requires { IsFixpoint (box_of self.now frame.now) frame.now }
+    /// What a frame says of a goal before the search branches. All sources in its domains order the pairs of `ordered`.
+    pub(crate) fn prospect(&self, frame: &Frame, ordered: &Rows, goal: Goal) -> Prospect
+        requires fixpoint { IsFixpoint (box_of self.now frame.now) frame.now }
+        requires sound { IsOrderOfBox (box_of self.now frame.now) ordered.now }
         ensures { IsProspect (box_of self.now frame.now) goal result }
     {
         // For the prover: an execution's outcome follows from its sources.
@@ -50,7 +52,7 @@ impl Problem<'_> {
             Goal::Any => Prospect::Each,
             Goal::OfClass(class) => self.prospect_of(&frame.domains, class),
             Goal::Race => {
-                if self.may_race(frame) {
+                if self.races(frame, ordered, false) {
                     Prospect::Each
                 } else {
                     Prospect::Nothing
@@ -64,10 +66,11 @@ impl Problem<'_> {
         requires { IsFixpoint (box_of self.now frame.now) frame.now }
         ensures { IsStep (box_of self.now frame.now) goal result }
     {
-        if self.is_disordered(frame) {
+        let mut ordered = frame.happens_before;
+        if self.put_all_ordered(frame, &mut ordered) && self.is_disordered(frame, &ordered) {
             return Step::Refuted;
         }
-        match self.prospect(frame, goal) {
+        match self.prospect(frame, &ordered.rows, goal) {
             Prospect::Nothing => Step::Refuted,
             Prospect::Open(place) => Step::Branched(Branch {
                 place,

@@ -14,7 +14,7 @@ loop-next-preserved g c =
     let t = c.args.plan.now in
     let end = c.min-end.result in
     let behind : c.end.result ≡ choices_before t (c.combination.result + 1) =
-    c.end.ensures.value ∙ ap (λ (p : Litmus × ℕ). choices_before p.0 (p.1 + 1)) (c.combination-in-loop-next.ensures ∙ c.open-problem.ensures) in
+    c.end.ensures.value ∙ ap (λ (p : Litmus × ℕ). choices_before p.0 (p.1 + 1)) (c.combination-in-loop-next.ensures ∙ c.reopen.ensures) in
     let low : c.args.from ≤ c.loop-next.next = c.loop-next.invariant.after in
     let high : c.loop-next.next ≤ end = omega (arith, c.min-end.ensures, behind, c.combination.ensures.high, c.loop-next-test.true) in
     record {
@@ -23,7 +23,7 @@ loop-next-preserved g c =
       gains = gains_on t c.args.from c.loop-next.next end low high c.args.table.now c.loop-next.table c.record_on.new.table c.args.raced c.loop-next.race
           c.in_ok-race.race c.loop-next.invariant.gains
           (subst (λ (p : Litmus × ℕ). Gains p.0 (λ n. IsTrue (in_range c.loop-next.next end n)) c.loop-next.table c.record_on.new.table c.loop-next.race c.in_ok-race.race)
-          c.open-problem.ensures c.in_ok-race.ensures.gains);
+          c.reopen.ensures c.in_ok-race.ensures.gains);
     }
 
 pub returns-clause-gains : goal.returns-clause-gains

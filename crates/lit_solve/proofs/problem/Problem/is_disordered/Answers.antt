@@ -6,10 +6,10 @@ pub returns-then-has_cycle : goal.returns-then-has_cycle
 returns-then-has_cycle c _ x is =
     let box = box_of c.args.self.now c.args.frame.now in
     let cycle = c.has_cycle.ensures.0 c.if-has_cycle.true in
-    no_cycle_by_order box x is c.laws_below.ensures c.requires.is_box cycle.0 (c.in-Some.ensures.ordered cycle.0 cycle.0 cycle.1)
+    no_cycle_by_order box x is c.laws_below.ensures c.requires.contained.is_box cycle.0 (c.requires.sound.ordered cycle.0 cycle.0 cycle.1)
 
 pub returns-then-not-has_coherent : goal.returns-then-not-has_coherent
 returns-then-not-has_coherent c _ x is =
     let box = box_of c.args.self.now c.args.frame.now in
-    coherent_by_order box x is (Holds c.in-Some.ordered.rows) c.in-Some.ensures.ordered c.loop-place.place
+    coherent_by_order box x is (Holds c.args.ordered.now.rows) c.requires.sound.ordered c.loop-place.place
     (omega (arith, c.reads-place-end.ensures.value, c.loop-place-test.true)) (c.has_coherent.ensures c.if-not-has_coherent.true)
