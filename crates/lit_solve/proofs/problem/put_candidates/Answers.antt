@@ -1,5 +1,5 @@
 use Rattle.lit_solve.proofs.Words.{◌<◌, ◌∙◌, ◌≤◌, arith, BYTE_READ_LIMIT, byte_reads, Event, events_on, IsCandidate}
-use Rattle.lit_solve.proofs.Words.{length, length-set, List, slice_get_within, subst, ℕ}
+use Rattle.lit_solve.proofs.Words.{length, length-set, List, slice_get_within, subst}
 use Rattle.lit_solve.proofs.CandidateLemmas.{sets_more}
 use Rattle.lit_solve.proofs.PruningLemmas.{as_many}
 use Rattle.lit_solve.proofs.problem.put_candidates.Goals as goal
