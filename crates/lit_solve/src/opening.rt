@@ -62,6 +62,8 @@ impl Problem<'_> {
     }
 
     /// The frame of a box without empty domains, pruned and propagated until nothing more is forced. `None` if that refutes the box.
+    /// It is not inlined: `fixpoint` mostly ends before it, and would clear its room for frames at each call.
+    #[inline(never)]
     fn propagated(&self, domains: &Domains) -> Option<Frame>
         requires is_box { IsBox (box_with self.now domains.now) }
         requires some { ¬ HasEmptyDomain (box_with self.now domains.now) }
@@ -89,7 +91,6 @@ impl Problem<'_> {
         if self.has_false_unwritten() {
             return None;
         }
-        // A function pays at entry for what it may hold, and this mostly ends here: so what holds a frame is one of its own.
         let domains = self.consistent(domains)?;
         self.propagated(&domains)
     }

@@ -61,7 +61,9 @@ impl Problem<'_> {
         }
     }
 
-    /// The search's step at a frame. It branches first on what decides the goal (decision 27).
+    /// The search's step at a frame. It branches first on what decides the goal (decision 27). It is not inlined: `exists` would clear
+    /// its room for a frame at each call.
+    #[inline(never)]
     pub(crate) fn step(&self, frame: &Frame, goal: Goal) -> Step
         requires { IsFixpoint (box_of self.now frame.now) frame.now }
         ensures { IsStep (box_of self.now frame.now) goal result }
