@@ -117,8 +117,8 @@ impl Problem<'_> {
         false
     }
 
-    /// Whether a relation that all sources in the domains of a frame order shows that it is infeasible: it has a cycle, or no source of some
-    /// byte read is coherent.
+    /// Whether a relation that all sources in the domains of a frame order shows that the frame is infeasible: the relation has a cycle,
+    /// or no source of some byte read is coherent.
     pub(crate) fn is_disordered(&self, frame: &Frame, ordered: &TwoWayRows) -> bool
         requires contained { IsContained (box_of self.now frame.now) frame.now }
         requires sound { IsOrderOfBox (box_of self.now frame.now) ordered.now.rows }
