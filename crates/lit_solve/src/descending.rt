@@ -9,9 +9,10 @@ ghost use Rattle.lit_solve.specs.Box.{events_on};
 ghost use Rattle.lit_solve.specs.Internal.Frames.{box_of};
 ghost use Rattle.lit_solve.specs.Internal.Fixpoint.{IsFixpoint};
 
+use crate::decided::Decided;
 use crate::domains::set_of;
 use crate::frame::Frame;
-use crate::goal::{Goal, Prospect};
+use crate::goal::Goal;
 use crate::problem::Problem;
 
 impl Problem<'_> {
@@ -25,8 +26,8 @@ impl Problem<'_> {
             return self.exists(frame, goal);
         }
         match self.prospect(frame, goal) {
-            Prospect::Nothing => false,
-            Prospect::Each | Prospect::Open(_) => true,
+            Decided::Known(false) => false,
+            Decided::Known(true) | Decided::Open(_) => true,
         }
     }
 

@@ -1,4 +1,7 @@
-use Rattle.lit_solve.proofs.Words.{box_of, false≢true, Goal, IsProspect, MeetsGoal, subst, sym, ◌∙◌}
+use Rattle.lit_solve.proofs.Words.{Bool, Box, box_of, Execution, execution_events, false, false≢true, Goal, HasDataRace, IsCompletion, IsProspect}
+use Rattle.lit_solve.proofs.Words.{IsTrue, MayRaceIn, subst, sym, true}
+use Rattle.lit_solve.specs.declared.decided.Decided.TheVariants.{Known}
+use Rattle.lit_solve.specs.declared.goal.Goal.TheVariants.{Race}
 use Rattle.lit_solve.proofs.RegisterLemmas.{prospect_of_completions}
 use Rattle.lit_solve.proofs.problem.Problem.prospect.Goals as goal
 
@@ -8,9 +11,14 @@ returns-in-OfClass c =
     subst (λ (g : Goal). IsProspect box g c.prospect_of.result) (sym c.in-OfClass.is)
     (prospect_of_completions c.laws_below.ensures box c.requires.exact.contained.is_box c.in-OfClass.class c.prospect_of.result c.prospect_of.ensures)
 
-pub returns-else-may_race : goal.returns-else-may_race
-returns-else-may_race c x is meets =
+-- where no pair may race, no completion has a data race
+race_decided : (box : Box) (may : Bool) → (MayRaceIn box → IsTrue may)
+    → ((x : Execution) → IsCompletion box x → HasDataRace (execution_events box.test x) x.sources → MayRaceIn box) → IsProspect box Race (Known may)
+race_decided box true given bound = λ x is. tt
+race_decided box false given bound = λ x is race. false≢true (given (bound x is race))
+
+pub returns-in-Race : goal.returns-in-Race
+returns-in-Race c =
     let box = box_of c.args.self.now c.args.frame.now in
-    let race = subst (λ (g : Goal). MeetsGoal box.test g x) c.in-Race.is meets in
-    false≢true (sym c.if-may_race.false
-    ∙ c.may_race.ensures (c.boxes_bound_races.ensures.may box x c.requires.exact.contained.is_box is race))
+    subst (λ (g : Goal). IsProspect box g (Known c.may_race.result)) (sym c.in-Race.is)
+    (race_decided box c.may_race.result c.may_race.ensures (λ x is. c.boxes_bound_races.ensures.may box x c.requires.exact.contained.is_box is))
