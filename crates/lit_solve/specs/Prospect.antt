@@ -49,7 +49,7 @@ IsValueOf box r decided = IsDecidedOn box (λ sources. value_of (box_events box)
 abbrev pub outcome_by : Box → List ℕ → List ℕ
 outcome_by box sources = part_outcome (record { test = box.test; combination = box.combination; sources = sources })
 
--- what they say of whether the outcome is in the class
+-- what the domains say of whether the outcome is in the class
 abbrev pub IsOutcomeProspect : Box → Class → Decided Bool → Type 0
 IsOutcomeProspect box class decided =
     IsDecidedOn box (λ sources. is_of_class box.test class (outcome_by box sources)) (IsAskedAt box box.test.check) decided

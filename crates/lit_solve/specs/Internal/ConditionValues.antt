@@ -29,7 +29,7 @@ IsByteDecided box k byte (Open at) = (at ≡ k) × IsUndecidedAt box k
 abbrev pub IsReadDecided : Box → (r number : ℕ) → Decided Bool → Type 0
 IsReadDecided box r number decided = IsDecidedOn box (λ sources. value_of (box_events box) sources r == number) (IsOfRead box r) decided
 
--- what they say of the value of the condition
+-- what the domains say of the value of the condition
 abbrev pub IsDecided : Box → Condition → Decided Bool → Type 0
 IsDecided box condition decided =
     IsDecidedOn box (λ sources. holds (zip (names_of box.test) (outcome_by box sources)) condition) (IsAskedAt box condition) decided
@@ -45,7 +45,7 @@ abbrev pub opposite_of : Decided Bool → Decided Bool
 opposite_of (Known value) = Known (not value)
 opposite_of (Open k) = Open k
 
--- what they say of whether completions meet the goal: none does; each does as far as its outcome goes; or that depends on a byte read
+-- what a box says of whether completions meet the goal: none does; each does as far as its outcome goes; or that depends on a byte read
 -- whose sources store several bytes
 abbrev pub IsProspect : Box → Goal → Decided Bool → Type 0
 IsProspect box goal (Known false) = (x : Execution) → IsCompletion box x → ¬ MeetsGoal box.test goal x
