@@ -120,7 +120,7 @@ impl Problem<'_> {
         }
     }
 
-    /// The value of a condition, by the domains of the byte reads that its registers observe (decision 28).
+    /// The value of a condition, by the domains of the byte reads that its registers observe.
     pub(crate) fn decide(&self, domains: &Domains, condition: &Cond) -> Decided<bool>
         requires { IsBox (box_with self.now domains.now) }
         ensures { IsDecided (box_with self.now domains.now) (condition_of condition.now) result }
