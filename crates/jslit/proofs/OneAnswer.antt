@@ -11,7 +11,8 @@ use Rattle.lit_report.specs.declared.verdict.Verdict.{Verdict}
 use Rattle.lit_report.specs.declared.verdict.Verdict.TheVariants.{Always, Sometimes, Never}
 use Rattle.lit_report.specs.ReportText.{quick_text, report_text}
 use Rattle.lit_report.specs.Verdict.{AllMeet, IsVerdict, verdict_of}
-use Rattle.jslit.specs.Answer.{IsAnswerOf, IsAnswerOn, IsQuickReportOf, IsReportOf}
+use Rattle.jslit.specs.Answer.{IsAnswerOn, IsQuickReportOf, IsReportOf}
+use Rattle.jslit.specs.Internal.Answering.{IsAnswerOf}
 use Rattle.jslit.proofs.QuickAnswers.{one_first}
 
 never_or_always : (t : Litmus) (report : Report) → AllMeet t report false → IsVerdict t report Always → ⊥

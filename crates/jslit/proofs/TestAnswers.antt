@@ -16,10 +16,10 @@ use Rattle.lit_search.specs.FirstOfClass.{IsFirstOf}
 use Rattle.lit_valid.specs.Gives.{Gives}
 use Rattle.lit_search.specs.Report.{Report, IsReport, entry_at, in_range}
 use Rattle.lit_report.specs.declared.verdict.Verdict.{Verdict}
-use Rattle.jslit.specs.Answer.{HasBegun, HasReported, IsAnswerOf, IsAnswerOn, IsComplete, IsQuickReportOf, IsReportOf}
+use Rattle.jslit.specs.Answer.{HasBegun, HasReported, IsAnswerOn, IsComplete, IsQuickReportOf, IsReportOf}
 use Rattle.lit_report.specs.ReportText.{quick_text, report_text}
 use Rattle.lit_report.specs.Verdict.{IsVerdict, verdict_of}
-use Rattle.jslit.specs.Internal.Answering.{HasWritten, HasWrittenSome, IsFirstFound}
+use Rattle.jslit.specs.Internal.Answering.{HasWritten, HasWrittenSome, IsAnswerOf, IsFirstFound}
 use Rattle.lit_report.specs.Internal.FirstEntry.{entry_of_option}
 use Rattle.jslit.proofs.QuickAnswers.{quick_judged}
 use Rattle.jslit.proofs.Statuses.{has_begun}

@@ -1,5 +1,5 @@
 -- What a run answers for the bytes of a text (this project's own).
-use Rattle.std.specs.Prelude.{◌≡◌, ◌⊎◌, ℕ, Bool, true, false, Option, is_some, List, [], ◌++◌, length, map, Contains}
+use Rattle.std.specs.Prelude.{◌≡◌, ◌⊎◌, ℕ, Bool, MatchBool, Option, is_some, List, [], ◌++◌, length, map, Contains}
 use Rattle.std.specs.Io.KnownBytes.{Appends}
 use Rattle.lit_syntax.specs.Syntax.{Litmus}
 use Rattle.lit_read.specs.Faults.{IsFirstFault}
@@ -44,17 +44,12 @@ pub record IsQuickReportOf (test : Litmus) (answer : List ℕ) : Type 0 where
       → IsVerdict test report (verdict_of (is_some met) (is_some unmet))
   pub is : answer ≡ quick_text test met unmet (verdict_of (is_some met) (is_some unmet))
 
--- the quick report or the whole one
-abbrev pub IsAnswerOf : (quick : Bool) → (test : Litmus) → (answer : List ℕ) → Type 0
-IsAnswerOf true test answer = IsQuickReportOf test answer
-IsAnswerOf false test answer = IsReportOf test answer
-
--- The text spells a test whose plan is not refused, and the answer is the test's.
+-- The text spells a test whose plan is not refused, and the answer is the test's quick report, or else the whole one.
 pub record IsAnswerOn (quick : Bool) (text answer : List ℕ) : Type 0 where
   pub test : Litmus
   pub spelled : Spells text test
   pub planned : (fault : PlanFault) → ¬ IsRefusal test fault
-  pub of_test : IsAnswerOf quick test answer
+  pub of_test : MatchBool quick (IsQuickReportOf test answer) (IsReportOf test answer)
 
 -- What a fault says of the text: that it is the first one, or that the text spells a test that is refused so.
 abbrev pub IsFaultOn : List ℕ → RunFault → Type 0

@@ -6,23 +6,23 @@ use Rattle.lit_solve.proofs.Words.{ap, Is, IsDecided, not}
 use Rattle.lit_syntax.specs.Syntax.{Not}
 use Rattle.lit_solve.specs.Internal.ConditionValues.{opposite_of}
 use Rattle.lit_syntax.specs.declared.syntax.Cond as code
-use Rattle.lit_solve.specs.declared.condition_values.Decided.TheVariants.{Known, Undecided}
+use Rattle.lit_solve.specs.declared.decided.Decided.TheVariants.{Known, Open}
 
 -- the registers of the outcome by these sources, with their values
 abbrev pub values_of : Box → List ℕ → List ((ℕ × ℕ) × ℕ)
 values_of box sources = zip (names_of box.test) (outcome_by box sources)
 
 -- of an Any, before these members: none of the earlier ones is true, or the value is undecided
-abbrev pub IsAnyLeft : Box → Condition → List Cond → Decided → Type 0
+abbrev pub IsAnyLeft : Box → Condition → List Cond → Decided Bool → Type 0
 IsAnyLeft box condition left (Known false) = (sources : List ℕ) → AreSourcesIn box sources → holds (values_of box sources) condition ≡ list_any (member_holds (values_of box sources)) left
 IsAnyLeft box condition left (Known true) = ⊥
-IsAnyLeft box condition left (Undecided k) = IsUndecidedAt box k × IsAskedAt box condition k
+IsAnyLeft box condition left (Open k) = IsUndecidedAt box k × IsAskedAt box condition k
 
 -- of an All: each of the earlier ones is true, or the value is undecided
-abbrev pub IsAllLeft : Box → Condition → List Cond → Decided → Type 0
+abbrev pub IsAllLeft : Box → Condition → List Cond → Decided Bool → Type 0
 IsAllLeft box condition left (Known true) = (sources : List ℕ) → AreSourcesIn box sources → holds (values_of box sources) condition ≡ list_all (member_holds (values_of box sources)) left
 IsAllLeft box condition left (Known false) = ⊥
-IsAllLeft box condition left (Undecided k) = IsUndecidedAt box k × IsAskedAt box condition k
+IsAllLeft box condition left (Open k) = IsUndecidedAt box k × IsAskedAt box condition k
 
 -- ---- members that decide alone
 module _ (values : List ((ℕ × ℕ) × ℕ)) (members : Vec Cond Global) (items : List Cond) (is : items ≡ members.items) (i : ℕ) (member : Cond) (inside : i < length items) (at : member ≡ get_or items i member) where
@@ -67,14 +67,14 @@ module _ (members : Vec Cond Global) (items : List Cond) (is : items ≡ members
   }
 
 -- ---- the opposite
-pub negated : (box : Box) (condition : Condition) (decided : Decided) → IsDecided box condition decided
+pub negated : (box : Box) (condition : Condition) (decided : Decided Bool) → IsDecided box condition decided
     → IsDecided box (Not condition) (opposite_of decided)
 negated box condition (Known value) each = λ sources lie. ap not (each sources lie)
-negated box condition (Undecided k) (undecided, asked) =
+negated box condition (Open k) (undecided, asked) =
     (undecided, record { agent = asked.agent; register = asked.register; looks = asked.looks; observes = asked.observes })
 
-pub differs : (box : Box) (agent reg value : ℕ) (decided : Decided) → IsDecided box (Is agent reg true value) decided
+pub differs : (box : Box) (agent reg value : ℕ) (decided : Decided Bool) → IsDecided box (Is agent reg true value) decided
     → IsDecided box (Is agent reg false value) (opposite_of decided)
 differs box agent reg value (Known met) each = λ sources lie. ap not (each sources lie)
-differs box agent reg value (Undecided k) (undecided, asked) =
+differs box agent reg value (Open k) (undecided, asked) =
     (undecided, record { agent = asked.agent; register = asked.register; looks = asked.looks; observes = asked.observes })

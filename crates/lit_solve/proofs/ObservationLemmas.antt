@@ -2,10 +2,10 @@
 use Rattle.lit_solve.proofs.Words.{◌*◌, ◌+◌, ◌++◌, ◌<◌, [], ◌^◌, ap, ap₂, AreSourcesIn, arith, Box, box_events, byte_read_at, byte_reads}
 use Rattle.lit_solve.proofs.Words.{bytes_taken, composed, drop, Event, Execution, execution_outcome, get_or, get_or-map, HasSource, IsBox}
 use Rattle.lit_solve.proofs.Words.{IsCompletion, IsValueObserved, IsValueOf, its_outcome, Laws, length, length-map, List, map}
-use Rattle.lit_solve.proofs.Words.{names_from-within, names_of, observed_read, observed_value, part_with, reads_on, ReadValue, refl}
+use Rattle.lit_solve.proofs.Words.{names_from-within, names_of, observed_read, observed_value, part_with, reads_on, Decided, refl}
 use Rattle.lit_solve.proofs.Words.{slice_get, slice_get-drop, slice_get-get_or, Some, stored_for, suc, sym, take, take_all, take_more}
 use Rattle.lit_solve.proofs.Words.{Taken, value_of, zero, ℕ, ◌∙◌, ◌∷◌, ◌≡◌, ◌≢◌, ◌≤◌}
-use Rattle.lit_solve.specs.declared.observation.ReadValue.TheVariants.{One}
+use Rattle.lit_solve.specs.declared.decided.Decided.TheVariants.{Known, Open}
 use Rattle.lit_solve.proofs.CompletionLemmas.{completes, part_of}
 use Rattle.lit_solve.proofs.FillLemmas.{sources_lie}
 use Rattle.lit_solve.proofs.FillingLemmas.{no_more, same_number, taken_other}
@@ -77,9 +77,11 @@ module _ (box : Box) (r : ℕ) where
 
 -- ---- registers
 -- a register that observes a read has its value
-pub observed_by_read : (box : Box) (name : ℕ × ℕ) (r : ℕ) (value : ReadValue) → Some r ≡ observed_read box.test box.combination name → IsValueOf box r value
+pub observed_by_read : (box : Box) (name : ℕ × ℕ) (r : ℕ) (value : Decided ℕ) → Some r ≡ observed_read box.test box.combination name → IsValueOf box r value
     → IsValueObserved box name value
-observed_by_read box name r value holds is = grind arith
+observed_by_read box name r (Known value) holds is = λ sources lie.
+    ap (observed_value (part_with box sources)) (sym holds) ∙ is sources lie
+observed_by_read box name r (Open k) holds (undecided, own) = (undecided, (name, sym holds ∙ ap (λ (q : ℕ). Some q) (sym own)))
 
 module _ (box : Box) (entered : IsBox box) (laws : Laws) (x : Execution) (is : IsCompletion box x) where
   -- what a register has at the end of the completion
@@ -97,7 +99,7 @@ module _ (box : Box) (entered : IsBox box) (laws : Laws) (x : Execution) (is : I
   -- one value more
   pub value_more : (values more : List ℕ) (name : ℕ × ℕ) (value : ℕ) → length values < length (names_of box.test)
       → name ≡ get_or (names_of box.test) (length values) (0, 0) → values ≡ take (length values) (execution_outcome box.test x)
-      → IsValueObserved box name (One value) → more ≡ values ++ value ∷ [] → more ≡ take (length values + 1) (execution_outcome box.test x)
+      → IsValueObserved box name (Known value) → more ≡ values ++ value ∷ [] → more ≡ take (length values + 1) (execution_outcome box.test x)
   value_more values more name value inside at so_far observed_is grown =
       let outcome = execution_outcome box.test x in
       let within : length values < length outcome = omega (arith, inside, length_outcome) in

@@ -4,7 +4,7 @@ use Rattle.lit_solve.proofs.Words.{◌<◌, AddsEntries, Any, ap, AreEventsIn, A
 use Rattle.lit_solve.proofs.Words.{byte_read_at, byte_reads, cases_eq, Entry, eq-eqb, Event, event_or_not, EventSet, Execution}
 use Rattle.lit_solve.proofs.Words.{execution_outcome, false≢true, HasEachOutcome, HasEvent, HasOutcome, HasSource, inl, inr, IsBox}
 use Rattle.lit_solve.proofs.Words.{IsCompletion, IsRestricted, IsLeastEntry, IsObservedAt, IsUndecidedAt, IsWithin, Laws, length, List, names_of}
-use Rattle.lit_solve.proofs.Words.{observed_value, Prunes, refl, same_Some, slice_get, Some, stored_for, subst, sym, TakesFrom, true}
+use Rattle.lit_solve.proofs.Words.{observed_value, Prunes, refl, same_Some, slice_get, slice_get_within, Some, stored_for, subst, sym, TakesFrom, true}
 use Rattle.lit_solve.proofs.Words.{value_in, value_of, zip, ℕ, ◌↔◌, ◌∙◌, ◌≡◌, ◌⊎◌}
 use Rattle.lit_solve.proofs.CompletionLemmas.{part_of}
 use Rattle.lit_solve.proofs.ReadValueLemmas.{byte_for, other_number}
@@ -195,6 +195,10 @@ pub same_stores_among : (box : Box) (k source : ℕ) (all group : EventSet) → 
     → ((w : ℕ) → HasEvent group w ↔ (HasEvent all w × (stored_for box k w ≡ stored_for box k source)))
     → (w : ℕ) → HasEvent group w ↔ (HasSource box k w × (stored_for box k w ≡ stored_for box k source))
 same_stores_among box k source all group all_is group_is w = grind arith
+
+-- a byte read whose sources store several bytes is one of the combination's
+pub undecided_known : (box : Box) (k : ℕ) → IsUndecidedAt box k → k < length (byte_reads (box_events box))
+undecided_known box k undecided = slice_get_within (byte_reads (box_events box)) k (undecided.read, undecided.byte) undecided.is_read
 
 -- it lacks some source of a byte read that is undecided
 pub some_differ : (box : Box) (k source : ℕ) (group : EventSet) → k < length (byte_reads (box_events box)) → IsUndecidedAt box k → HasSource box k source

@@ -7,7 +7,7 @@ use Rattle.lit_solve.proofs.Words.{length-map-range_with_len, List, map, nat_tes
 use Rattle.lit_solve.proofs.Words.{payload_of, range_with_len, refl, same_Some, slice_get, slice_get-get_or, slice_get_within, slice_index}
 use Rattle.lit_solve.proofs.Words.{Some, stored_for, subst, suc, sym, to_le_bytes, true, value_of, w32, ℕ, ◌∙◌, ◌∷◌, ◌≡◌, ◌≢◌, ◌≤◌, ◌⊎◌}
 use Rattle.std.proofs.Common.{zip}
-use Rattle.lit_solve.specs.declared.condition_values.Decided.TheVariants.{Known, Undecided}
+use Rattle.lit_solve.specs.declared.decided.Decided.TheVariants.{Known, Open}
 
 -- two sources that store different bytes
 pub undecided_by : (box : Box) (k some other : ℕ) → k < length (byte_reads (box_events box)) → HasSource box k some → HasSource box k other
@@ -99,10 +99,10 @@ module _ (box : Box) (r number : ℕ) where
   StoresIt b w = payload_at (event_at events w) b ≡ byte_for b
 
   -- of the byte reads before a place, each one of the read reads this number's byte; or one is undecided
-  abbrev pub IsDecidedBelow : (place : ℕ) → Decided → Type 0
+  abbrev pub IsDecidedBelow : (place : ℕ) → Decided Bool → Type 0
   IsDecidedBelow place (Known true) = (k b w : ℕ) → k < place → slice_get (byte_reads events) k ≡ Some (r, b) → HasSource box k w → StoresIt b w
   IsDecidedBelow place (Known false) = ⊥
-  IsDecidedBelow place (Undecided k) = IsUndecidedAt box k × ((byte_read_at events k).0 ≡ r)
+  IsDecidedBelow place (Open k) = IsUndecidedAt box k × ((byte_read_at events k).0 ≡ r)
 
   module _ (sound : AreEventsIn box.test.bytes (box_events box)) (known : r < length (box_events box)) (reads : does_read (event_at (box_events box) r).kind ≡ true) where
     payload_small : (w b : ℕ) → payload_at (event_at events w) b < 256
@@ -153,10 +153,10 @@ module _ (box : Box) (r number : ℕ) where
         let stored : payload_at (event_at events w) b ≡ stored_for box k w = ap (λ (q : ℕ × ℕ). payload_at (event_at events w) q.1) here in
         other_number sources lie k b w at source (λ same. false≢true (sym (none w (lie.within k w source)) ∙ eq-eqb _ _ (sym stored ∙ same)))
 
-    pub decided_all : number < 256 ^ e.size → (decided : Decided) → IsDecidedBelow (length (byte_reads events)) decided → IsReadDecided box r number decided
+    pub decided_all : number < 256 ^ e.size → (decided : Decided Bool) → IsDecidedBelow (length (byte_reads events)) decided → IsReadDecided box r number decided
     decided_all fits decided each = grind (arith, eq-eqb, same_number, slice_get_within)
 
     -- one place more, of another read or of a byte that is the number's
-    pub decided_next : (place : ℕ) (q : ℕ × ℕ) (decided : Decided) → slice_get (byte_reads events) place ≡ Some q
+    pub decided_next : (place : ℕ) (q : ℕ × ℕ) (decided : Decided Bool) → slice_get (byte_reads events) place ≡ Some q
         → (q.0 ≢ r) ⊎ IsByteDecided box place (byte_for q.1) (Known true) → IsDecidedBelow place decided → IsDecidedBelow (place + 1) decided
     decided_next place q decided at same each = grind (arith, cases_eq, cases_lt, get_or_from_slice_get, same_Some)

@@ -8,12 +8,11 @@ use Rattle.lit_solve.proofs.Words.{IsTrue, IsWalk, IsWalkIn, its_outcome, last_r
 use Rattle.lit_solve.proofs.Words.{length-map-range_with_len, List, list_any, list_any-append, Litmus, Load, map, names_from}
 use Rattle.lit_solve.proofs.Words.{names_from-within, names_in, names_of, nat_tests, ne_eqb, None, none-some, number_on, observed_read}
 use Rattle.lit_solve.proofs.Words.{observed_value, OfClass, Option, option_or, or_parts, outcome_by, path_in, path_on, product-known}
-use Rattle.lit_solve.proofs.Words.{Prospect, range_with_len, reads_into, refl, REGISTERS, same_Some, slice_get, slice_get-get_or}
+use Rattle.lit_solve.proofs.Words.{range_with_len, reads_into, refl, REGISTERS, same_Some, slice_get, slice_get-get_or}
 use Rattle.lit_solve.proofs.Words.{slice_index_or, Some, Statement, statement_writes, Statements, Step, Store, subst, suc, sym, Then, true}
 use Rattle.lit_solve.proofs.Words.{value_in, walk_in, writes, zero, ◌||◌, ℕ, ◌∙◌, ◌∷◌, ◌≡◌, ◌≢◌, ◌≤◌, ◌⊎◌}
 use Rattle.std.proofs.Common.{zip}
-use Rattle.lit_solve.specs.declared.condition_values.Decided.TheVariants.{Known, Undecided}
-use Rattle.lit_solve.specs.declared.goal.Prospect.TheVariants.{Each, Nothing, Open}
+use Rattle.lit_solve.specs.declared.decided.Decided.TheVariants.{Known, Open}
 use Rattle.lit_solve.proofs.CompletionLemmas.{completes, part_of}
 use Rattle.lit_solve.proofs.FillLemmas.{sources_lie}
 
@@ -205,22 +204,22 @@ register_value laws box x entered is agent reg =
     ∙ register_observed laws box entered x.sources agent reg
 
 -- what the domains say of outcomes by sources holds of completions
-pub prospect_of_completions : (laws : Laws) (box : Box) → IsBox box → (class : Class) (prospect : Prospect) → IsOutcomeProspect box class prospect
-    → IsProspect box (OfClass class) prospect
-prospect_of_completions laws box entered class Nothing none = λ x is meets.
-    none x.sources (sources_lie box x is) (subst (λ (o : List ℕ). IsTrue (is_of_class box.test class o)) (outcome_given laws box x entered is) meets)
-prospect_of_completions laws box entered class Each each = λ x is.
-    subst (λ (o : List ℕ). IsTrue (is_of_class box.test class o)) (sym (outcome_given laws box x entered is)) (each x.sources (sources_lie box x is))
+pub prospect_of_completions : (laws : Laws) (box : Box) → IsBox box → (class : Class) (prospect : Decided Bool)
+    → IsOutcomeProspect box class prospect → IsProspect box (OfClass class) prospect
+prospect_of_completions laws box entered class (Known false) none = λ x is meets.
+    false≢true (sym (none x.sources (sources_lie box x is)) ∙ ap (is_of_class box.test class) (sym (outcome_given laws box x entered is)) ∙ meets)
+prospect_of_completions laws box entered class (Known true) each = λ x is.
+    ap (is_of_class box.test class) (outcome_given laws box x entered is) ∙ each x.sources (sources_lie box x is)
 prospect_of_completions laws box entered class (Open k) (is_undecided, asked) = is_undecided
 
 -- ---- what is decided of a register
 module _ (laws : Laws) (box : Box) (entered : IsBox box) (agent reg number : ℕ) where
-  pub decided_by_read : (r : ℕ) (decided : Decided) → observed_read box.test box.combination (agent, reg) ≡ Some r → IsReadDecided box r number decided
+  pub decided_by_read : (r : ℕ) (decided : Decided Bool) → observed_read box.test box.combination (agent, reg) ≡ Some r → IsReadDecided box r number decided
       → IsDecided box (Is agent reg true number) decided
   decided_by_read r (Known value) observed_is each = λ sources lie.
       ap (λ (n : ℕ). n == number) (register_observed laws box entered sources agent reg ∙ ap (observed_value (part_of box sources)) observed_is)
       ∙ each sources lie
-  decided_by_read r (Undecided k) observed_is (is_undecided, own) = (
+  decided_by_read r (Open k) observed_is (is_undecided, own) = (
     is_undecided,
     record {
       agent = agent;

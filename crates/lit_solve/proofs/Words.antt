@@ -74,9 +74,9 @@ pub use Rattle.lit_solve.specs.Internal.Searching.{GoesWith, IsBranch}
 pub use Rattle.lit_solve.specs.Internal.Fixpoint.{IsRestricted, IsFixpoint, IsFixpointBelow, TakesFrom}
 pub use Rattle.lit_solve.specs.Internal.SoundRange.{IsSoundRange}
 pub use Rattle.lit_solve.specs.Outcomes.{AddsEntries, AreNewEntries, HasEachOutcome, IsLeastEntry}
-pub use Rattle.lit_solve.specs.Prospect.{IsAskedAt, IsOutcomeProspect, IsUndecidedAt, IsValueOf, outcome_by}
+pub use Rattle.lit_solve.specs.Prospect.{IsAskedAt, IsDecidedOn, IsOfRead, IsOutcomeProspect, IsUndecidedAt, IsValueOf, outcome_by}
 pub use Rattle.lit_solve.specs.Prunable.{IsPrunable, IsRefusedOn, IsRefuted}
-pub use Rattle.lit_solve.specs.declared.condition_values.Decided.{Decided}
+pub use Rattle.lit_solve.specs.declared.decided.Decided.{Decided}
 pub use Rattle.lit_solve.specs.declared.filling.Taken.{Taken}
 pub use Rattle.lit_solve.specs.declared.frame.Frame.{Frame}
 pub use Rattle.lit_solve.specs.declared.goal.Goal.{Goal}
@@ -110,8 +110,6 @@ pub use Rattle.lit_rel.proofs.SameRelations.{between_by, coherent_read_by}
 pub use Rattle.lit_rel.proofs.SetLemmas.{event_or_not, split_less, split_less_yet, within_le}
 pub use Rattle.lit_rel.proofs.ValueLemmas.{length-stored, stored}
 pub use Rattle.lit_solve.specs.DataRace.{CanFillFrom, CanRaceIn, HasSourceOf, IsOrderedIn, MayRaceIn}
-pub use Rattle.lit_solve.specs.declared.observation.ReadValue.{ReadValue}
-pub use Rattle.lit_solve.specs.declared.goal.Prospect.{Prospect}
 pub use Rattle.lit_valid.proofs.CompletionLemmas.{example, example_paths, example_valid, its_outcome, not_broken}
 pub use Rattle.lit_valid.specs.Class.{is_of_class}
 pub use Rattle.lit_valid.specs.declared.class.Class.{Class}

@@ -9,38 +9,17 @@ ghost use Rattle.lit_rel.specs.EventSet.{HasEvent};
 ghost use Rattle.lit_valid.specs.PartOutcome.{observed_read as read_of};
 ghost use Rattle.lit_solve.specs.Box.{HasSource, IsBox, box_with, events_on};
 ghost use Rattle.lit_solve.specs.Prospect.{IsOutcomeProspect};
-ghost use Rattle.lit_solve.specs.Internal.ConditionValues.{IsByteDecided, IsDecided, IsReadDecided, opposite_of, stored_for};
+ghost use Rattle.lit_solve.specs.Internal.ConditionValues.{IsByteDecided, IsDecided, IsReadDecided, stored_for};
 
+use crate::decided::Decided;
 use crate::domains::Domains;
 use crate::filling::storing;
-use crate::goal::Prospect;
 use crate::problem::Problem;
 use lit_paths::event_at;
 use lit_rel::EventSet;
 use lit_syntax::{Cond, REGISTERS};
 use lit_valid::Class;
 use lit_valid::laws::laws_below;
-
-/// The value of a condition.
-#[derive(Clone, Copy, Debug, PartialEq, Eq)]
-pub(crate) enum Decided {
-    /// It has this value by any sources in the domains.
-    Known(bool),
-    /// It depends on the byte that the byte read at this place reads.
-    Undecided(usize),
-}
-
-impl Decided {
-    /// The value of the negated condition.
-    fn opposite(self) -> Self
-        ensures { result ≡ opposite_of self }
-    {
-        match self {
-            Decided::Known(value) => Decided::Known(!value),
-            Decided::Undecided(place) => Decided::Undecided(place),
-        }
-    }
-}
 
 /// Whether a number fits into so many bytes: one, two or four.
 fn fits(value: u32, size: u8) -> bool
@@ -67,7 +46,7 @@ impl Problem<'_> {
     }
 
     /// Whether the byte read at a place reads this byte, by the sources in its domain.
-    fn byte_is(&self, domains: &Domains, place: usize, value: u8) -> Decided
+    fn byte_is(&self, domains: &Domains, place: usize, value: u8) -> Decided<bool>
         requires place { place < length (byte_reads (events_on self.now)) }
         requires is_box { IsBox (box_with self.now domains.now) }
         ensures { IsByteDecided (box_with self.now domains.now) place value result }
@@ -81,11 +60,11 @@ impl Problem<'_> {
         let Some(_other) = domains[place].difference(storing).split_first() else {
             return Decided::Known(true);
         };
-        Decided::Undecided(place)
+        Decided::Open(place)
     }
 
     /// Whether a read has a value, by the sources in the domains of its bytes.
-    fn read_is(&self, domains: &Domains, read: usize, value: u32) -> Decided
+    fn read_is(&self, domains: &Domains, read: usize, value: u32) -> Decided<bool>
         requires known { read < length (events_on self.now) }
         requires reads { IsTrue (does_read (event_of (events_on self.now) read).kind) }
         requires is_box { IsBox (box_with self.now domains.now) }
@@ -107,7 +86,7 @@ impl Problem<'_> {
                     Decided::Known(true) => {}
                     // One byte that can't be that of the number decides, even if others are undecided (decision 29).
                     Decided::Known(false) => return Decided::Known(false),
-                    Decided::Undecided(open) => decided = Decided::Undecided(open),
+                    Decided::Open(open) => decided = Decided::Open(open),
                 }
             }
         }
@@ -129,7 +108,7 @@ impl Problem<'_> {
     }
 
     /// Whether a register has a value in the outcome by any sources that lie in the box.
-    fn register_is(&self, domains: &Domains, agent: u8, reg: u8, value: u32) -> Decided
+    fn register_is(&self, domains: &Domains, agent: u8, reg: u8, value: u32) -> Decided<bool>
         requires { IsBox (box_with self.now domains.now) }
         ensures { IsDecided (box_with self.now domains.now) (Is agent reg true value) result }
     {
@@ -141,8 +120,8 @@ impl Problem<'_> {
         }
     }
 
-    /// The value of a condition, by the domains of the byte reads that its registers observe (decision 28).
-    pub(crate) fn decide(&self, domains: &Domains, condition: &Cond) -> Decided
+    /// The value of a condition, by the domains of the byte reads that its registers observe.
+    pub(crate) fn decide(&self, domains: &Domains, condition: &Cond) -> Decided<bool>
         requires { IsBox (box_with self.now domains.now) }
         ensures { IsDecided (box_with self.now domains.now) (condition_of condition.now) result }
     {
@@ -153,7 +132,7 @@ impl Problem<'_> {
                     match self.decide(domains, member) {
                         Decided::Known(true) => return Decided::Known(true),
                         Decided::Known(false) => {}
-                        Decided::Undecided(place) => decided = Decided::Undecided(place),
+                        Decided::Open(place) => decided = Decided::Open(place),
                     }
                 }
                 decided
@@ -164,7 +143,7 @@ impl Problem<'_> {
                     match self.decide(domains, member) {
                         Decided::Known(false) => return Decided::Known(false),
                         Decided::Known(true) => {}
-                        Decided::Undecided(place) => decided = Decided::Undecided(place),
+                        Decided::Open(place) => decided = Decided::Open(place),
                     }
                 }
                 decided
@@ -182,20 +161,15 @@ impl Problem<'_> {
         }
     }
 
-    /// What the domains of a box say of outcomes in a class, by all sources in them, whether an execution with these is valid or not.
-    pub fn prospect_of(&self, domains: &Domains, class: Class) -> Prospect
+    /// Whether outcomes are in a class, by all sources in the domains of a box, whether an execution with these is valid or not.
+    pub fn prospect_of(&self, domains: &Domains, class: Class) -> Decided<bool>
         requires { IsBox (box_with self.now domains.now) }
         ensures { IsOutcomeProspect (box_with self.now domains.now) class result }
     {
-        match self.decide(domains, self.combination.test().check()) {
-            Decided::Undecided(place) => Prospect::Open(place),
-            Decided::Known(met) => {
-                if met == (class == Class::Met) {
-                    Prospect::Each
-                } else {
-                    Prospect::Nothing
-                }
-            }
+        let met = self.decide(domains, self.combination.test().check());
+        match class {
+            Class::Met => met,
+            Class::Unmet => met.opposite(),
         }
     }
 }

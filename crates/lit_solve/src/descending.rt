@@ -10,14 +10,15 @@ ghost use Rattle.lit_solve.specs.Box.{events_on};
 ghost use Rattle.lit_solve.specs.Internal.Frames.{box_of};
 ghost use Rattle.lit_solve.specs.Internal.Fixpoint.{IsFixpoint};
 
+use crate::decided::Decided;
 use crate::domains::set_of;
 use crate::frame::Frame;
-use crate::goal::{Goal, Prospect};
+use crate::goal::Goal;
 use crate::problem::Problem;
 
 impl Problem<'_> {
     /// What a frame says of a goal, apart from a step of the search.
-    fn outlook(&self, frame: &Frame, goal: Goal) -> Prospect
+    fn outlook(&self, frame: &Frame, goal: Goal) -> Decided<bool>
         requires { IsFixpoint (box_of self.now frame.now) frame.now }
         ensures { IsProspect (box_of self.now frame.now) goal result }
     {
@@ -40,8 +41,8 @@ impl Problem<'_> {
             return self.exists(frame, goal);
         }
         match self.outlook(frame, goal) {
-            Prospect::Nothing => false,
-            Prospect::Each | Prospect::Open(_) => true,
+            Decided::Known(false) => false,
+            Decided::Known(true) | Decided::Open(_) => true,
         }
     }
 

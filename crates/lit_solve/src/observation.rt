@@ -7,6 +7,7 @@ ghost use Rattle.lit_solve.specs.Prospect.{IsUndecidedAt, IsValueOf};
 ghost use Rattle.lit_solve.specs.Internal.ConditionValues.{stored_for};
 ghost use Rattle.lit_solve.specs.Internal.Observation.{AreFirstValues, IsObservation, IsValueObserved};
 
+use crate::decided::Decided;
 use crate::domains::Domains;
 use crate::filling::Taken;
 use crate::problem::Problem;
@@ -16,15 +17,6 @@ use lit_valid::laws::laws_below;
 
 /// The last values of the first registers of an outcome, in the order of `Plan::names`.
 pub(crate) type Values = ArrayVec<u32, NAME_LIMIT>;
-
-/// What the domains of a box say of the value of a read.
-#[derive(Clone, Copy, Debug, PartialEq, Eq)]
-pub enum ReadValue {
-    /// It has this value by any of them.
-    One(u32),
-    /// The sources of the read's byte read at this place store several bytes.
-    Open(usize),
-}
 
 impl Problem<'_> {
     /// Whether some source in the domain of the byte read at a place stores another byte than this source.
@@ -46,7 +38,7 @@ impl Problem<'_> {
     }
 
     /// What the domains of a box, none of which is empty, say of the value of a read. The read is an event number.
-    pub fn read_value(&self, domains: &Domains, read: u8) -> ReadValue
+    pub fn read_value(&self, domains: &Domains, read: u8) -> Decided<u32>
         requires read { read < length (events_on self.now) }
         requires is_box { IsBox (box_with self.now domains.now) }
         requires some { ¬ HasEmptyDomain (box_with self.now domains.now) }
@@ -61,16 +53,16 @@ impl Problem<'_> {
                 unreachable!()
             };
             if self.has_other_byte(domains, place, source) {
-                return ReadValue::Open(place);
+                return Decided::Open(place);
             }
             taken = self.with_byte(place, taken, source);
             place += 1;
         }
-        ReadValue::One(taken.value)
+        Decided::Known(taken.value)
     }
 
     /// What the domains of a box say of the value that a register, named by agent and register, has at the end.
-    fn register_value(&self, domains: &Domains, name: (u8, u8)) -> ReadValue
+    fn register_value(&self, domains: &Domains, name: (u8, u8)) -> Decided<u32>
         requires is_box { IsBox (box_with self.now domains.now) }
         requires some { ¬ HasEmptyDomain (box_with self.now domains.now) }
         ensures { IsValueObserved (box_with self.now domains.now) name result }
@@ -79,7 +71,7 @@ impl Problem<'_> {
         let _events = self.events();
         match self.observed_read(name.0, name.1) {
             Some(read) => self.read_value(domains, read as u8),
-            None => ReadValue::One(0),
+            None => Decided::Known(0),
         }
     }
 
@@ -96,8 +88,8 @@ impl Problem<'_> {
         laws_below();
         for i in values.len()..self.names.len() {
             match self.register_value(domains, self.names[i]) {
-                ReadValue::One(value) => values.push(value),
-                ReadValue::Open(place) => return Some(place),
+                Decided::Known(value) => values.push(value),
+                Decided::Open(place) => return Some(place),
             }
         }
         None

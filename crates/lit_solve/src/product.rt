@@ -8,11 +8,12 @@ ghost use Rattle.lit_solve.specs.Internal.Product.{AreOpenReads, AreValuesBeside
 ghost use Rattle.lit_solve.specs.Internal.Product.{IsChosen, IsListed, Observes};
 ghost use Rattle.lit_solve.specs.Outcomes.{AddsEntries, HasEachOutcome};
 
+use crate::decided::Decided;
 use crate::domains::Domains;
 use crate::heartbeat::Heartbeat;
 use crate::laws::{leaves_are_filled_read_by_read, leaves_have_one_order};
 use crate::numbering::first_of;
-use crate::observation::{ReadValue, Values};
+use crate::observation::Values;
 use crate::problem::Problem;
 use crate::read_values::Filling;
 use crate::table::OutcomeTable;
@@ -133,8 +134,8 @@ impl Problem<'_> {
                 let read = read as u8;
                 if !is_listed(reads.as_slice(), read) {
                     match self.read_value(domains, read) {
-                        ReadValue::One(one) => value = one,
-                        ReadValue::Open(_) => self.list_read(alloc, domains, read, reads)?,
+                        Decided::Known(one) => value = one,
+                        Decided::Open(_) => self.list_read(alloc, domains, read, reads)?,
                     }
                 }
             }

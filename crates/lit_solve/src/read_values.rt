@@ -5,9 +5,9 @@ ghost use Rattle.lit_solve.specs.Box.{box_with, events_on};
 ghost use Rattle.lit_solve.specs.Internal.Independent.{IsIndependent};
 ghost use Rattle.lit_solve.specs.Internal.ReadValues.{AddsFillings, HaveEachValue};
 
+use crate::decided::Decided;
 use crate::domains::Domains;
 use crate::laws::leaves_are_filled_read_by_read;
-use crate::observation::ReadValue;
 use crate::problem::Problem;
 use lit_valid::laws::laws_below;
 use std::alloc::AllocError;
@@ -36,13 +36,13 @@ impl Problem<'_> {
         laws_below();
         leaves_are_filled_read_by_read();
         let place = match self.read_value(domains, read) {
-            ReadValue::One(value) => {
+            Decided::Known(value) => {
                 let sources = self.least_filling(domains);
                 let share = self.digits_of(sources.as_slice(), read);
                 fillings.push(Filling { value, share })?;
                 return Ok(());
             }
-            ReadValue::Open(place) => place,
+            Decided::Open(place) => place,
         };
         // For the prover: a combination has few events and few byte reads.
         let _events = self.events();

@@ -10,9 +10,10 @@ ghost use Rattle.lit_solve.specs.Internal.Leaves.{IsOrderOfBox};
 ghost use Rattle.lit_solve.specs.Internal.Searching.{GoesWith, IsStep};
 ghost use Rattle.lit_solve.specs.Internal.Fixpoint.{IsFixpoint};
 
+use crate::decided::Decided;
 use crate::domains::set_of;
 use crate::frame::Frame;
-use crate::goal::{Goal, Prospect};
+use crate::goal::Goal;
 use crate::laws::boxes_bound_races;
 use crate::problem::Problem;
 use lit_rel::{EventSet, Rows};
@@ -40,7 +41,7 @@ pub(crate) enum Step {
 
 impl Problem<'_> {
     /// What a frame says of a goal before the search branches. All sources in its domains order the pairs of `ordered`.
-    pub(crate) fn prospect(&self, frame: &Frame, ordered: &Rows, goal: Goal) -> Prospect
+    pub(crate) fn prospect(&self, frame: &Frame, ordered: &Rows, goal: Goal) -> Decided<bool>
         requires fixpoint { IsFixpoint (box_of self.now frame.now) frame.now }
         requires sound { IsOrderOfBox (box_of self.now frame.now) ordered.now }
         ensures { IsProspect (box_of self.now frame.now) goal result }
@@ -49,15 +50,9 @@ impl Problem<'_> {
         laws_below();
         boxes_bound_races();
         match goal {
-            Goal::Any => Prospect::Each,
+            Goal::Any => Decided::Known(true),
             Goal::OfClass(class) => self.prospect_of(&frame.domains, class),
-            Goal::Race => {
-                if self.races(frame, ordered, false) {
-                    Prospect::Each
-                } else {
-                    Prospect::Nothing
-                }
-            }
+            Goal::Race => Decided::Known(self.races(frame, ordered, false)),
         }
     }
 
@@ -73,12 +68,12 @@ impl Problem<'_> {
             return Step::Refuted;
         }
         match self.prospect(frame, &ordered.rows, goal) {
-            Prospect::Nothing => Step::Refuted,
-            Prospect::Open(place) => Step::Branched(Branch {
+            Decided::Known(false) => Step::Refuted,
+            Decided::Open(place) => Step::Branched(Branch {
                 place,
                 by_value: true,
             }),
-            Prospect::Each => match self.branch(frame) {
+            Decided::Known(true) => match self.branch(frame) {
                 Some(place) => Step::Branched(Branch {
                     place,
                     by_value: false,

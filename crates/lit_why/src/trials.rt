@@ -5,7 +5,7 @@ ghost use Rattle.lit_solve.specs.Box.{HasEmptyDomain, IsBox, box_with, events_on
 ghost use Rattle.lit_why.specs.Internal.Trials.{AreRefused, IsReadRefused, MayTry};
 
 use lit_rel::has_false_guard;
-use lit_solve::{Domains, Problem, Prospect, ReadValue};
+use lit_solve::{Decided, Domains, Problem};
 use lit_valid::Class;
 
 /// Whether a guard on a read, by event number, is false of the read's value, where the domains leave the read one value.
@@ -18,8 +18,8 @@ fn is_read_refused(problem: &Problem<'_>, domains: &Domains, read: usize) -> boo
     // Tells the prover that the number of an event fits in a byte.
     let _events = problem.combination().events();
     match problem.read_value(domains, read as u8) {
-        ReadValue::One(value) => has_false_guard(problem.combination(), Some(read), value),
-        ReadValue::Open(_) => false,
+        Decided::Known(value) => has_false_guard(problem.combination(), Some(read), value),
+        Decided::Open(_) => false,
     }
 }
 
@@ -50,7 +50,7 @@ pub(crate) fn can_try(problem: &Problem<'_>, domains: &Domains, class: Class) ->
         return false;
     }
     match problem.prospect_of(domains, class) {
-        Prospect::Nothing => false,
-        Prospect::Each | Prospect::Open(_) => true,
+        Decided::Known(false) => false,
+        Decided::Known(true) | Decided::Open(_) => true,
     }
 }

@@ -1,15 +1,19 @@
 -- The effect of writing the answer for a test.
-use Rattle.std.specs.Prelude.{Bool, Option, IfSome, List, ℕ}
+use Rattle.std.specs.Prelude.{Bool, MatchBool, Option, IfSome, List, ℕ}
 use Rattle.std.specs.Io.KnownBytes.{Appends}
 use Rattle.lit_syntax.specs.Syntax.{Litmus}
 use Rattle.lit_valid.specs.declared.class.Class.{Class}
 use Rattle.lit_search.specs.Report.{Report}
 use Rattle.jslit.specs.declared.fault.RunFault.{RunFault}
 use Rattle.jslit.specs.declared.fault.RunFault.TheVariants as faults
-use Rattle.jslit.specs.Answer.{IsAnswerOf}
+use Rattle.jslit.specs.Answer.{IsQuickReportOf, IsReportOf}
 use Rattle.lit_report.specs.Writing.{AppendsBeginning}
 use Rattle.jslit.specs.QuickAnswer.{IsFirst}
 use Rattle.lit_report.specs.Internal.FirstEntry.{IsOnlyEntry, entry_of_option}
+
+-- the answer is the test's quick report, or else the whole one
+abbrev pub IsAnswerOf : (quick : Bool) → (test : Litmus) → (answer : List ℕ) → Type 0
+IsAnswerOf quick test answer = MatchBool quick (IsQuickReportOf test answer) (IsReportOf test answer)
 
 -- known bytes grew by the answer for a test
 pub record HasWritten (quick : Bool) (test : Litmus) (old new : Option (List ℕ)) : Type 0 where

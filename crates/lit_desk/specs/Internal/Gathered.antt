@@ -11,7 +11,12 @@ merged_numbers xs ys = numbers (xs.told ++ ys.told) (xs.seen ++ ys.seen)
 -- what both did: the first one's lists before the other's
 abbrev pub merged_accounts : Account → Account → Account
 merged_accounts a b =
-    record { tickets = a.tickets ++ b.tickets; met = merged_numbers a.met b.met; unmet = merged_numbers a.unmet b.unmet; places = a.places + b.places }
+    record {
+      tickets = a.tickets ++ b.tickets;
+      met = merged_numbers a.met b.met;
+      unmet = merged_numbers a.unmet b.unmet;
+      places = a.places + b.places;
+    }
 
 abbrev pub gathered_account : List PlaceLists → Account
 gathered_account [] = new_account 0

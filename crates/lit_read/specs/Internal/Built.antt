@@ -70,7 +70,10 @@ closed f (g ∷ gs) = Ok (record { inner = with_operand g (asked f); outer = gs 
 unfoldable pub build_step : List Agent → Groups → Mark → Result Groups ReadKind
 build_step agents s Bang =
     if nat_le DEPTH_LIMIT (s.inner.depth + s.inner.nots) then Err TooDeep
-    else Ok (record { inner = record { depth = s.inner.depth; nots = s.inner.nots + 1; any = s.inner.any; all = s.inner.all }; outer = s.outer })
+    else Ok (record {
+      inner = record { depth = s.inner.depth; nots = s.inner.nots + 1; any = s.inner.any; all = s.inner.all };
+      outer = s.outer;
+    })
 build_step agents s Opens =
     if nat_le DEPTH_LIMIT (s.inner.depth + s.inner.nots) then Err TooDeep
     else Ok (record { inner = empty_group (s.inner.depth + s.inner.nots + 1); outer = s.inner ∷ s.outer })

@@ -5,12 +5,10 @@ use Rattle.lit_paths.specs.Execution.{Execution, execution_outcome}
 use Rattle.lit_paths.specs.Outcome.{names_of}
 use Rattle.lit_rel.specs.Part.{PartModel}
 use Rattle.lit_valid.specs.PartOutcome.{observed_read, observed_value}
-use Rattle.lit_solve.specs.declared.observation.ReadValue.{ReadValue}
-use Rattle.lit_solve.specs.declared.observation.ReadValue.TheVariants.{One, Open}
+use Rattle.lit_solve.specs.declared.decided.Decided.{Decided}
 use Rattle.lit_solve.specs.Box.{Box, box_events}
 use Rattle.lit_solve.specs.Completion.{IsCompletion}
-use Rattle.lit_solve.specs.Fill.{AreSourcesIn}
-use Rattle.lit_solve.specs.Prospect.{IsUndecidedAt}
+use Rattle.lit_solve.specs.Prospect.{IsDecidedOn, IsUndecidedAt}
 
 -- the box's combination with these sources
 abbrev pub part_with : Box → List ℕ → PartModel
@@ -20,13 +18,11 @@ part_with box sources = record { test = box.test; combination = box.combination;
 abbrev pub IsObservedAt : Box → ℕ → Type 0
 IsObservedAt box k = (name : ℕ × ℕ) × (observed_read box.test box.combination name ≡ Some (byte_read_at (box_events box) k).0)
 
--- a register has this value at the end by any sources that lie in the box; or the sources of a byte read that it observes store
--- several bytes
-abbrev pub IsValueObserved : Box → ℕ × ℕ → ReadValue → Type 0
-IsValueObserved box name (One value) =
-    (sources : List ℕ) → AreSourcesIn box sources
-    → observed_value (part_with box sources) (observed_read box.test box.combination name) ≡ value
-IsValueObserved box name (Open k) = (k < length (byte_reads (box_events box))) × IsUndecidedAt box k × IsObservedAt box k
+-- what the domains say of the value that a register has at the end
+abbrev pub IsValueObserved : Box → ℕ × ℕ → Decided ℕ → Type 0
+IsValueObserved box name decided =
+    let read : Option ℕ = observed_read box.test box.combination name in
+    IsDecidedOn box (λ sources. observed_value (part_with box sources) read) (IsObservedAt box) decided
 
 -- the outcome of each completion begins with these values
 pub record AreFirstValues (box : Box) (values : List ℕ) : Type 0 where

@@ -39,7 +39,8 @@ pub record IsListed (reads : List OpenRead) (r : ℕ) : Type 0 where
 -- no two are the same read
 abbrev pub AreDistinct : List OpenRead → Type 0
 AreDistinct reads =
-    (i j : ℕ) (first second : OpenRead) → i < j → slice_get reads i ≡ Some first → slice_get reads j ≡ Some second → first.read ≢ second.read
+    (i j : ℕ) (first second : OpenRead) → i < j → slice_get reads i ≡ Some first → slice_get reads j ≡ Some second
+    → first.read ≢ second.read
 
 -- each is an observed read of the box, and no two are the same read
 pub record AreOpenReads (box : Box) (reads : List OpenRead) : Type 0 where
@@ -66,7 +67,8 @@ pub record ChangesListed (c : Litmus × ℕ) (reads : List OpenRead) (old new : 
 -- these take the same sources
 abbrev pub AgreeBeside : List Event → List OpenRead → (sources others : List ℕ) → Type 0
 AgreeBeside events reads sources others =
-    (k r b : ℕ) → slice_get (byte_reads events) k ≡ Some (r, b) → ¬ IsListed reads r → slice_index_or others k 0 ≡ slice_index_or sources k 0
+    (k r b : ℕ) → slice_get (byte_reads events) k ≡ Some (r, b) → ¬ IsListed reads r
+    → slice_index_or others k 0 ≡ slice_index_or sources k 0
 
 -- the digits of the listed reads, added up over the first k byte reads
 abbrev pub shares_below : List Event → List OpenRead → List ℕ → (k : ℕ) → ℕ

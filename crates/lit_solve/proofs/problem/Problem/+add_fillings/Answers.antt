@@ -2,7 +2,7 @@ use Rattle.lit_solve.proofs.Words.{◌<◌, ◌∙◌, AddsFillings, ap, AreSour
 use Rattle.lit_solve.proofs.Words.{List, no_events, refl, size_of, slice_index_or, subst, sym, value_of, ℕ}
 use Rattle.lit_solve.proofs.CompletionLemmas.{sourced}
 use Rattle.lit_solve.proofs.FillLemmas.{sources_lie}
-use Rattle.lit_solve.proofs.ObservedLemmas.{IsSeenBy, all_seen_by, same_stores_among, seen_more, some_differ}
+use Rattle.lit_solve.proofs.ObservedLemmas.{IsSeenBy, all_seen_by, same_stores_among, seen_more, some_differ, undecided_known}
 use Rattle.lit_solve.proofs.PruningLemmas.{source_known}
 use Rattle.lit_solve.proofs.SearchingLemmas.{left_less}
 use Rattle.lit_solve.proofs.ReadValuesLemmas.{adds_more_fillings, adds_one_filling, fillings_out, one_filling, value_of_last, values_more}
@@ -15,34 +15,40 @@ digits_of-share-requires t c =
     subst (AreSources (events_on c.args.self.now)) (some.2 ∙ sym c.as_slice.ensures.value)
     (sourced (box_with c.args.self.now c.args.domains.now) some.0 some.1)
 
-pub returns-in-One-clause-added : goal.returns-in-One-clause-added
-returns-in-One-clause-added t c =
+pub returns-in-Known-clause-added : goal.returns-in-Known-clause-added
+returns-in-Known-clause-added t c =
     let box = box_with c.args.self.now c.args.domains.now in
-    adds_one_filling box c.args.read c.args.fillings.now.items c.push.new.self.items (record { value = c.in-One.value; share = c.digits_of-share.result })
+    adds_one_filling box c.args.read c.args.fillings.now.items c.push.new.self.items (record { value = c.in-Known.value; share = c.digits_of-share.result })
     (record {
       sources = c.as_slice.result.now;
-      least = subst (IsLeastFilling box c.args.read c.in-One.value) (sym c.as_slice.ensures.value)
+      least = subst (IsLeastFilling box c.args.read c.in-Known.value) (sym c.as_slice.ensures.value)
           (one_filling c.laws_below.ensures box c.requires.independent c.leaves_are_filled_read_by_read.ensures c.args.read
-          c.least_filling-sources.result.items c.in-One.value c.least_filling-sources.ensures.completes c.least_filling-sources.ensures.least
-          c.in-One.ensures);
+          c.least_filling-sources.result.items c.in-Known.value c.least_filling-sources.ensures.completes c.least_filling-sources.ensures.least
+          c.in-Known.ensures);
       share = c.digits_of-share.ensures;
-    }) c.in_ok-push-in-One.ensures.items
+    }) c.in_ok-push-in-Known.ensures.items
 
-pub returns-in-One-clause-whole : goal.returns-in-One-clause-whole
-returns-in-One-clause-whole t c x is =
+pub returns-in-Known-clause-whole : goal.returns-in-Known-clause-whole
+returns-in-Known-clause-whole t c x is =
     let box = box_with c.args.self.now c.args.domains.now in
-    value_of_last c.args.fillings.now.items c.push.new.self.items (record { value = c.in-One.value; share = c.digits_of-share.result })
-    (value_of (events_on c.args.self.now) x.sources c.args.read) c.in_ok-push-in-One.ensures.items
-    (sym (c.in-One.ensures x.sources (sources_lie box x is)))
+    value_of_last c.args.fillings.now.items c.push.new.self.items (record { value = c.in-Known.value; share = c.digits_of-share.result })
+    (value_of (events_on c.args.self.now) x.sources c.args.read) c.in_ok-push-in-Known.ensures.items
+    (sym (c.in-Known.ensures x.sources (sources_lie box x is)))
 
 pub storing_same-group-requires : goal.storing_same-group-requires
 storing_same-group-requires t c =
-    let known = λ (w : ℕ). source_known (box_with c.args.self.now c.args.domains.now) c.requires.independent.is_box c.in-Open.place w c.in-Open.ensures.0 in
+    let box = box_with c.args.self.now c.args.domains.now in
+    let inside = undecided_known box c.in-Open.place c.in-Open.ensures.0 in
+    let known = λ (w : ℕ). source_known box c.requires.independent.is_box c.in-Open.place w inside in
     record {
-      place = c.in-Open.ensures.0;
+      place = inside;
       source = known c.in-Some.source (c.loop-source.invariant.within c.in-Some.source c.in-Some.ensures.there);
       known = known;
     }
+
+pub restrict_independent-requires-clause-place : goal.restrict_independent-requires-clause-place
+restrict_independent-requires-clause-place t c =
+    undecided_known (box_with c.args.self.now c.args.domains.now) c.in-Open.place c.in-Open.ensures.0
 
 pub add_fillings-requires : goal.add_fillings-requires
 add_fillings-requires t c =
@@ -53,7 +59,7 @@ add_fillings-requires t c =
     let there = c.loop-source.invariant.within c.in-Some.source c.in-Some.ensures.there in (
       subst (λ (n : ℕ). size_of c.restrict_independent.new.domains < n) c.decreases
           (c.restrict_independent.ensures.less c.if-restrict_independent.true
-          (some_differ box place c.in-Some.source c.storing_same-group.result c.in-Open.ensures.0 c.in-Open.ensures.1 there matching)),
+          (some_differ box place c.in-Some.source c.storing_same-group.result (undecided_known box place c.in-Open.ensures.0) c.in-Open.ensures.0 there matching)),
       (c.requires.read, c.restrict_independent.ensures.independent c.if-restrict_independent.true),
     )
 
@@ -65,7 +71,7 @@ returns-in_err-add_fillings-clause-added t c =
     c.storing_same-group.ensures in
     adds_more_fillings box c.args.read c.args.fillings.now.items c.loop-source.fillings.items c.add_fillings.new.fillings.items c.loop-source.invariant.added
     (fillings_out c.laws_below.ensures box c.requires.independent c.leaves_are_filled_read_by_read.ensures c.events-events.ensures.sound c.args.read place
-    c.in-Open.ensures.0 c.in-Open.ensures.2 c.in-Some.source c.storing_same-group.result matching c.restrict_independent.new.domains
+    (undecided_known box place c.in-Open.ensures.0) c.in-Open.ensures.1 c.in-Some.source c.storing_same-group.result matching c.restrict_independent.new.domains
     (c.restrict_independent.ensures.restricted c.if-restrict_independent.true) (c.restrict_independent.ensures.independent c.if-restrict_independent.true)
     c.loop-source.fillings.items c.add_fillings.new.fillings.items c.add_fillings.ensures.added)
 
@@ -91,7 +97,7 @@ loop-source-preserved t c =
           subst (λ (fs : List Filling). AddsFillings box c.args.read old fs
           × IsSeenBy (λ x. HasValue fs (value_of (events_on c.args.self.now) x.sources c.args.read)) box place rest) (sym (ap (λ v. v.items) w.fillings-is))
           (values_more c.laws_below.ensures box c.requires.independent c.leaves_are_filled_read_by_read.ensures c.events-events.ensures.sound c.args.read
-          place c.in-Open.ensures.0 c.in-Open.ensures.2 c.in-Some.source group matching c.restrict_independent.new.domains
+          place (undecided_known box place c.in-Open.ensures.0) c.in-Open.ensures.1 c.in-Some.source group matching c.restrict_independent.new.domains
           (c.restrict_independent.ensures.restricted w.if-restrict_independent.true) (c.restrict_independent.ensures.independent w.if-restrict_independent.true) old mid
           w.add_fillings.new.fillings.items c.loop-source.left rest c.difference-left.ensures c.loop-source.invariant.added
           c.loop-source.invariant.seen w.add_fillings.ensures.added w.in_ok-add_fillings.ensures.whole)
@@ -99,7 +105,7 @@ loop-source-preserved t c =
           subst (λ (fs : List Filling). AddsFillings box c.args.read old fs
           × IsSeenBy (λ x. HasValue fs (value_of (events_on c.args.self.now) x.sources c.args.read)) box place rest) (sym (ap (λ v. v.items) w.fillings-is)) (
             c.loop-source.invariant.added,
-            seen_more (λ x. HasValue mid (value_of (events_on c.args.self.now) x.sources c.args.read)) box place c.in-Open.ensures.0 c.loop-source.left group
+            seen_more (λ x. HasValue mid (value_of (events_on c.args.self.now) x.sources c.args.read)) box place (undecided_known box place c.in-Open.ensures.0) c.loop-source.left group
                 rest c.difference-left.ensures (λ x is takes. absurd (c.restrict_independent.ensures.none w.if-restrict_independent.false x is takes))
                 c.loop-source.invariant.seen,
           )
@@ -113,5 +119,6 @@ loop-source-preserved t c =
 pub returns-clause-whole : goal.returns-clause-whole
 returns-clause-whole t c =
     all_seen_by (λ x. HasValue c.loop-source.fillings.items (value_of (events_on c.args.self.now) x.sources c.args.read))
-    (box_with c.args.self.now c.args.domains.now) c.in-Open.place c.in-Open.ensures.0 c.loop-source.left c.in_default.ensures
+    (box_with c.args.self.now c.args.domains.now) c.in-Open.place
+    (undecided_known (box_with c.args.self.now c.args.domains.now) c.in-Open.place c.in-Open.ensures.0) c.loop-source.left c.in_default.ensures
     c.loop-source.invariant.seen

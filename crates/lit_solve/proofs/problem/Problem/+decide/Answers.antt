@@ -1,7 +1,7 @@
 use Rattle.lit_solve.proofs.Words.{◌+◌, arith, box_with, common_steps, Cond, condition_of, drop, holds-All, holds-Any, IsAskedAt, member_holds}
 use Rattle.lit_solve.proofs.Words.{subst, sym}
 use Rattle.lit_solve.proofs.ConditionLemmas.{asked_in_all, asked_in_any, differs, IsAllLeft, IsAnyLeft, met_by_one, negated, unmet_by_one, values_of}
-use Rattle.lit_solve.proofs.problem.Problem.+decide.Goals.{in-Known-false, in-Known-true-decide, in-Undecided, in-Undecided-decide}
+use Rattle.lit_solve.proofs.problem.Problem.+decide.Goals.{in-Known-false, in-Known-true-decide, in-Open, in-Open-decide}
 use Rattle.lit_solve.proofs.problem.Problem.+decide.Goals as goal
 
 pub any-init : goal.any-init
@@ -24,12 +24,12 @@ any-preserved t c =
     let items = c.deref-member-items.result.now in
     elim c.match-decide.branch [
       | in-Known-false w ↦ grind (arith, common_steps)
-      | in-Undecided w ↦
+      | in-Open w ↦
           subst (IsAnyLeft box (condition_of c.args.condition.now) (drop (c.any.member-index + 1) items)) (sym w.decided-is) (
-            w.in-Undecided.ensures.0,
-            subst (λ (cond : Cond). IsAskedAt box (condition_of cond) w.in-Undecided.place) (sym c.in-Any.is)
+            w.in-Open.ensures.0,
+            subst (λ (cond : Cond). IsAskedAt box (condition_of cond) w.in-Open.place) (sym c.in-Any.is)
                 (asked_in_any c.in-Any.members items c.deref-member-items.ensures.value c.any.member-index c.member-item.result (omega arith)
-                c.member-item.is box w.in-Undecided.place w.in-Undecided.ensures.1),
+                c.member-item.is box w.in-Open.place w.in-Open.ensures.1),
           )
     ]
 
@@ -39,12 +39,12 @@ all-preserved t c =
     let items = c.deref-member-items-in-All.result.now in
     elim c.match-decide-2.branch [
       | in-Known-true-decide w ↦ grind (arith, common_steps)
-      | in-Undecided-decide w ↦
+      | in-Open-decide w ↦
           subst (IsAllLeft box (condition_of c.args.condition.now) (drop (c.all.member-index + 1) items)) (sym w.decided-is) (
-            w.in-Undecided-decide.ensures.0,
-            subst (λ (cond : Cond). IsAskedAt box (condition_of cond) w.in-Undecided-decide.place) (sym c.in-All.is)
+            w.in-Open-decide.ensures.0,
+            subst (λ (cond : Cond). IsAskedAt box (condition_of cond) w.in-Open-decide.place) (sym c.in-All.is)
                 (asked_in_all c.in-All.members items c.deref-member-items-in-All.ensures.value c.all.member-index c.member-item-in-all.result
-                (omega arith) c.member-item-in-all.is box w.in-Undecided-decide.place w.in-Undecided-decide.ensures.1),
+                (omega arith) c.member-item-in-all.is box w.in-Open-decide.place w.in-Open-decide.ensures.1),
           )
     ]
 

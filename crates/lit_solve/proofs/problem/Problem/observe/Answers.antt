@@ -1,6 +1,7 @@
 use Rattle.lit_solve.proofs.Words.{◌<◌, ap, arith, box_with, common_steps, execution_outcome, get_or, length, List, Litmus, names_of}
 use Rattle.lit_solve.proofs.Words.{subst, sym, take, ℕ, ◌∙◌, ◌≡◌}
 use Rattle.lit_solve.proofs.ObservationLemmas.{all_values, value_more}
+use Rattle.lit_solve.proofs.ObservedLemmas.{undecided_known}
 use Rattle.lit_solve.proofs.problem.Problem.observe.Goals as goal
 
 pub loop-i-preserved : goal.loop-i-preserved
@@ -18,11 +19,16 @@ loop-i-preserved c =
         few = omega (arith, c.push.ensures.len, inside);
         first = λ x is.
             subst (λ (n : ℕ). c.push.new.self.items ≡ take n (execution_outcome box.test x)) (sym c.push.ensures.len)
-            (value_more box c.requires.is_box c.laws_below.ensures x is values c.push.new.self.items _ c.in-One.value inside name
-            (c.loop-i.invariant.first.first x is) c.in-One.ensures c.push.ensures.items);
+            (value_more box c.requires.is_box c.laws_below.ensures x is values c.push.new.self.items _ c.in-Known.value inside name
+            (c.loop-i.invariant.first.first x is) c.in-Known.ensures c.push.ensures.items);
       };
     }
 
 pub returns-clause-observed : goal.returns-clause-observed
 returns-clause-observed c x is =
     grind (arith, common_steps, all_values, c.requires.is_box, c.laws_below.ensures, c.loop-i.invariant.first.first)
+
+pub returns-in-Open-clause-observed : goal.returns-in-Open-clause-observed
+returns-in-Open-clause-observed c =
+    let says = c.in-Open.ensures in
+    (undecided_known (box_with c.args.self.now c.args.domains.now) c.in-Open.place says.0, says.0, says.1)

@@ -4,7 +4,7 @@ use Rattle.lit_solve.proofs.FillLemmas.{sources_lie}
 use Rattle.lit_solve.proofs.OpenReadLemmas.{register_reads, values_more}
 use Rattle.lit_solve.proofs.ProductLemmas.{outcome_at, outcome_unobserved}
 use Rattle.lit_solve.proofs.problem.Problem.open_reads.Goals as goal
-use Rattle.lit_solve.proofs.problem.Problem.open_reads.Goals.{in-Some+then-not-is_listed+in-One, in-Some+then-not-is_listed+in-Open+in_ok-list_read-in-Open}
+use Rattle.lit_solve.proofs.problem.Problem.open_reads.Goals.{in-Some+then-not-is_listed+in-Known, in-Some+then-not-is_listed+in-Open+in_ok-list_read-in-Open}
 use Rattle.lit_solve.proofs.problem.Problem.open_reads.Goals.{in-Some+else-not-is_listed, in_default}
 
 pub list_read-requires-clause-observed : goal.list_read-requires-clause-observed
@@ -41,9 +41,9 @@ loop-i-preserved c =
     goes c.loop-i.reads.items (c.loop-i.invariant.reads, with_value c.loop-i.reads.items (λ r listed. listed) last) in
     let all : Goes c.match-observed_read.reads.items =
     elim c.match-observed_read.branch [
-      | in-Some+then-not-is_listed+in-One w ↦ kept (inr (λ x is.
+      | in-Some+then-not-is_listed+in-Known w ↦ kept (inr (λ x is.
           outcome_at c.laws_below.ensures box c.requires.independent x is w.in-Some.read i (record { inside = inside; reads = reads ∙ w.in-Some.is })
-          ∙ w.in-One.ensures x.sources (sources_lie box x is) ∙ sym w.value-is)) (ap (λ v. v.items) w.reads-is)
+          ∙ w.in-Known.ensures x.sources (sources_lie box x is) ∙ sym w.value-is)) (ap (λ v. v.items) w.reads-is)
       | in-Some+then-not-is_listed+in-Open+in_ok-list_read-in-Open w ↦ goes w.list_read.new.reads.items (
         w.in_ok-list_read-in-Open.ensures.reads,
         with_value w.list_read.new.reads.items w.in_ok-list_read-in-Open.ensures.stays

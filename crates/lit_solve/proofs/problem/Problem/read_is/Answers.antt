@@ -1,9 +1,9 @@
 use Rattle.lit_solve.proofs.Words.{◌+◌, ◌<◌, ◌^◌, ap, arith, Bool, Box, box_with, byte_read_at, byte_reads, ByteRead, cases_lt, common_steps, Decided}
 use Rattle.lit_solve.proofs.Words.{Event, event_at, events_on, false≢true, inl, inr, IsByteDecided, IsUndecidedAt, List, pair_of}
 use Rattle.lit_solve.proofs.Words.{slice_get, Some, subst, sym, ℕ, ◌∙◌, ◌≡◌, ◌≤◌}
-use Rattle.lit_solve.specs.declared.condition_values.Decided.TheVariants.{Known}
+use Rattle.lit_solve.specs.declared.decided.Decided.TheVariants.{Known}
 use Rattle.lit_solve.proofs.ReadValueLemmas.{IsDecidedBelow, byte_at, decided_all, decided_next, other_byte, too_large}
-use Rattle.lit_solve.proofs.problem.Problem.read_is.Goals.{then-from-read+in-Known-true, then-from-read+in-Undecided, else-from-read}
+use Rattle.lit_solve.proofs.problem.Problem.read_is.Goals.{then-from-read+in-Known-true, then-from-read+in-Open, else-from-read}
 use Rattle.lit_solve.proofs.problem.Problem.read_is.Goals as goal
 
 -- an event that was found among these
@@ -16,7 +16,7 @@ byte_of : (events : List Event) (place read : ℕ) (at : ByteRead) → slice_get
 byte_of events place read at here is = here ∙ ap (λ (n : ℕ). Some (n, at.byte)) is
 
 -- what was decided of a byte that is the same
-decided_on : (box : Box) (place : ℕ) {b same : ℕ} {d d_same : Decided} → b ≡ same → d ≡ d_same → IsByteDecided box place b d
+decided_on : (box : Box) (place : ℕ) {b same : ℕ} {d d_same : Decided Bool} → b ≡ same → d ≡ d_same → IsByteDecided box place b d
     → IsByteDecided box place same d_same
 decided_on box place {b} {same} {d} {d_same} byte decided is =
     subst (λ (v : ℕ). IsByteDecided box place v d_same) byte (subst (IsByteDecided box place b) decided is)
@@ -87,10 +87,10 @@ loop-place-preserved c =
           let comes = w.in-Known-true.is ∙ ap (λ (b : Bool). Known b) w.in-Known-true.field-0-test in
           subst (IsDecidedBelow box c.args.read c.args.value (place + 1)) (sym w.decided-is)
           (next (inr (decided_on box place byte comes w.byte_is.ensures)) c.loop-place.invariant)
-      | then-from-read+in-Undecided w ↦
+      | then-from-read+in-Open w ↦
           subst (IsDecidedBelow box c.args.read c.args.value (place + 1)) (sym w.decided-is)
-          (subst (λ (k : ℕ). IsUndecidedAt box k × ((byte_read_at (events_on p) k).0 ≡ c.args.read)) (sym w.in-Undecided.ensures.0) (
-            w.in-Undecided.ensures.1,
+          (subst (λ (k : ℕ). IsUndecidedAt box k × ((byte_read_at (events_on p) k).0 ≡ c.args.read)) (sym w.in-Open.ensures.0) (
+            w.in-Open.ensures.1,
             ap (λ (q : ℕ × ℕ). q.0) (sym c.byte_read-at.ensures.is) ∙ sym c.from.ensures ∙ w.if-from-read.true,
           ))
       | else-from-read w ↦
