@@ -4,7 +4,6 @@ ghost use Rattle.std.specs.Prelude.{ℕ, ◌<◌, IsFalse, IsTrue, length};
 ghost use Rattle.lit_paths.specs.ByteReads.{byte_reads};
 ghost use Rattle.lit_solve.specs.Completion.{HasSolution};
 ghost use Rattle.lit_solve.specs.Given.{HasAlone};
-ghost use Rattle.lit_solve.specs.Internal.ConditionValues.{IsProspect};
 ghost use Rattle.lit_solve.specs.Internal.Descending.{AreAloneBelow, IsLowest, IsLowestAt};
 ghost use Rattle.lit_solve.specs.Box.{events_on};
 ghost use Rattle.lit_solve.specs.Internal.Frames.{box_of};
@@ -17,20 +16,6 @@ use crate::goal::Goal;
 use crate::problem::Problem;
 
 impl Problem<'_> {
-    /// What a frame says of a goal, apart from a step of the search.
-    fn outlook(&self, frame: &Frame, goal: Goal) -> Decided<bool>
-        requires { IsFixpoint (box_of self.now frame.now) frame.now }
-        ensures { IsProspect (box_of self.now frame.now) goal result }
-    {
-        // No other goal asks what all sources order.
-        if goal != Goal::Race {
-            return self.prospect(frame, &frame.happens_before.rows, goal);
-        }
-        let mut ordered = frame.happens_before;
-        self.put_all_ordered(frame, &mut ordered);
-        self.prospect(frame, &ordered.rows, goal)
-    }
-
     /// Whether a frame may have a solution, as far as its domains show. If `complete`, whether it has one, by a search.
     fn is_promising(&self, frame: &Frame, goal: Goal, complete: bool) -> bool
         requires { IsFixpoint (box_of self.now frame.now) frame.now }
@@ -40,7 +25,12 @@ impl Problem<'_> {
         if complete {
             return self.exists(frame, goal);
         }
-        match self.outlook(frame, goal) {
+        let mut ordered = frame.happens_before;
+        // No other goal asks what all sources order.
+        if goal == Goal::Race {
+            self.put_all_ordered(frame, &mut ordered);
+        }
+        match self.prospect(frame, &ordered.rows, goal) {
             Decided::Known(false) => false,
             Decided::Known(true) | Decided::Open(_) => true,
         }
