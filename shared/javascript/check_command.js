@@ -2,11 +2,10 @@
 // The command jslit-check.
 
 const path = require('path');
-const { programOf } = require('./asked.js');
 const { TOP, run } = require('./command.js');
 const { Junit, annotation } = require('./hosted.js');
-const { flag, jobs, readOptions, seconds, text } = require('./options.js');
-const { builtProgram } = require('./programs.js');
+const { readOptions } = require('./options.js');
+const { builtProgram, namedProgram } = require('./programs.js');
 const { FIELDS, Runs, printedName, spoken, write } = require('./runs.js');
 const { filesIn } = require('./tests_in.js');
 
@@ -37,13 +36,9 @@ async function told(results, words, junit) {
 }
 
 async function main(given) {
-  const words = readOptions(given, {
-    program: text(), tsv: flag('json'), json: flag('tsv'), strict: flag(), junit: text(), annotate: flag(), notes: flag(), record: flag(),
-    jobs: jobs(), limit: seconds(10),
-  });
+  const words = readOptions(given, { apart: [['tsv', 'json'], ['tsv', 'notes']] });
   if (words === null) return 0;
-  if (words.tsv && words.notes) words.wrong("--notes doesn't go with --tsv");
-  const program = await programOf(words.program);
+  const program = await namedProgram(words.program);
   if (words.notes) await builtProgram('jslit-why');
   const isStated = words.strict || words.paths.length === 0;
   const runs = new Runs(program, words.limit, { isStated, records: words.record, notes: words.notes });

@@ -1,36 +1,28 @@
 'use strict';
 // The command jslit-engine; docs/ENGINES.md describes it.
 
-const path = require('path');
-const { spawnSync } = require('child_process');
-const { help, isStopping, run } = require('./command.js');
+const { isStopping, run } = require('./command.js');
 const { Campaign } = require('./campaign.js');
 const { Log } = require('./campaign_log.js');
 const { runEngine } = require('./engine.js');
 const { Summary, brief, histogram } = require('./engine_print.js');
 const { asked } = require('./engine_words.js');
 const { engineOf, machineOf } = require('./identity.js');
+const { byJslitJs } = require('./programs.js');
 const { lineOf } = require('./record.js');
 
 const ORDER = [1, 70, 4, 3, 5, 0];
 const RUNS = '2000';   // of a file of JavaScript
 
-// A file of JavaScript runs as it is, by jslit-js.
-function ofJavascript(given) {
-  const isAlone = given.length === 1 || (given.length === 3 && given[0] === '--program');
-  if (!isAlone || !given[given.length - 1].endsWith('.js')) return null;
-  const { status } = spawnSync(path.join(__dirname, '..', '..', 'bin', 'jslit-js'), ['--run', RUNS, ...given], { stdio: 'inherit' });
-  return status ?? 70;
-}
-
 async function main(given) {
-  const status = ofJavascript(given);
-  if (status !== null) return status;
+  const isAlone = given.length === 1 || (given.length === 3 && given[0] === '--program');
+  // A file of JavaScript runs as it is.
+  if (isAlone && given.at(-1).endsWith('.js')) return byJslitJs(null, ['--run', RUNS, ...given]);
   const words = asked(given);
-  if (words.help) return help();
+  if (words === null) return 0;
   const log = new Log(words.log);
   const engines = [];
-  const asks = words.isOne && words.keep === null ? null : runEngine;
+  const asks = words.isOne && words.keep === null ? null : (...asked) => runEngine(...asked, { limits: words });
   for (const command of words.engines) engines.push(await engineOf(command, words['engine-id'], asks));
   const campaign = new Campaign(words, engines, machineOf(words.machine), log);
   const summary = new Summary(engines.length);

@@ -4,9 +4,10 @@
 const fs = require('fs');
 const path = require('path');
 const { help, readText, run } = require('./command.js');
-const { messageOf, plain } = require('./lines.js');
+const { plain } = require('./lines.js');
 const { notesOfReport, reported } = require('./noting.js');
-const { TOP, builtProgram, namedProgram, runOf, tellText } = require('./programs.js');
+const { TOP, builtProgram, namedProgram, runOf, tellText, testIn } = require('./programs.js');
+const { strerror } = require('./system.js');
 const { MOST, more } = require('./text/faults.js');
 const { linesOf } = require('./text/forms.js');
 const { advice } = require('./text/refusals.js');
@@ -106,7 +107,7 @@ function failed(name) {
     const stored = path.join(TOP, 'litmus', path.basename(name));
     const near = [`${name}.lit`, stored, `${stored}.lit`].find((other) => fs.statSync(other, { throwIfNoEntry: false })?.isFile());
     const meant = error.code === 'EISDIR' ? '; jslit-check runs all tests of a folder' : near ? `; did you mean ${plain(path.relative('.', near))}?` : '';
-    say(`${plain(name)}: ${messageOf(error)}${meant}`);
+    say(`${plain(name)}: ${strerror(error)}${meant}`);
   }
 }
 
@@ -151,7 +152,7 @@ async function explained(program, words, name, schedule, isTold) {
 async function note(program, words, name, schedule) {
   if (words.some((word) => ['-h', '--help', '-V', '--version'].includes(word)) || name === null || isReadOnce(name)) return 0;
   const data = readText(name);
-  const { test } = await tellText(await builtProgram('jslit-text'), name, data);
+  const test = await testIn(name, data);
   const quick = words.filter((word) => word === '--quick');
   const outcomes = schedule === null ? await reported(program, quick, data, LIMIT_OF_NOTES) : [];
   for (const each of await notesOfReport(data, test, outcomes)) say(`${plain(name)}:${each.line}: note: ${each.said}`);
@@ -161,7 +162,7 @@ async function note(program, words, name, schedule) {
 async function main(given) {
   const isNamed = given[0] === '--program' && given.length > 1;
   let words = isNamed ? given.slice(2) : given;
-  const program = async () => (isNamed ? namedProgram(given[1]) : builtProgram('jslit'));
+  const program = () => namedProgram(isNamed ? given[1] : null);
   if (words.length === 1 && (words[0] === '--help' || words[0] === '-h')) return help();
   const [mode] = words;
   if (['--input-failed', '--notes', '--why', '--words-refused'].includes(mode)) words = words.slice(1);

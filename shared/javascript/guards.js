@@ -14,7 +14,7 @@ class Question {
 
   async begun(asked) {
     this.verdict = asked === 'race' ? null : await this.answer(this.whole, 'verdict');
-    this.left = asked === 'both' && await this.answer(this.whole, 'data race') === 'yes';
+    this.left = asked === 'both' && await this.answer(this.whole, 'race') === 'yes';
     this.race = asked !== 'verdict' && !this.left;
     return this;
   }
@@ -24,14 +24,14 @@ class Question {
     const key = `${what} ${lines}`;
     if (!this.known.has(key)) {
       const report = await this.program.report(this.name, this.accesses.textWith(lines), what === 'verdict' ? ['--quick'] : []);
-      this.known.set(key, report.last[what]);
+      this.known.set(key, report.other[what]);
     }
     return this.known.get(key);
   }
 
   async enough(lines) {
     return (this.verdict === null || await this.answer(lines, 'verdict') === this.verdict)
-      && (!this.race || await this.answer(lines, 'data race') === 'no');
+      && (!this.race || await this.answer(lines, 'race') === 'no');
   }
 
   // What is asked for, in words.

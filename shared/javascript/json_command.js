@@ -2,10 +2,11 @@
 // The command jslit-json; docs/ENGINES.md describes it.
 
 const fs = require('fs');
-const { Failure, help, readWords, run } = require('./command.js');
+const { Failure, run } = require('./command.js');
 const { Fault, Writer, plain } = require('./lines.js');
 const { ReportReader, jsonWriter, linesOf, readReport, readReports } = require('./report.js');
 const { readJson, readJsonLines } = require('./json.js');
+const { readOptions } = require('./options.js');
 const { pathOf } = require('./words.js');
 
 async function forward(input, writer) {
@@ -51,8 +52,8 @@ function failureOf(error, file, isOne) {
 }
 
 async function main(given) {
-  const words = readWords(given, { back: false, lines: false });
-  if (words.help) return help();
+  const words = readOptions(given);
+  if (words === null) return 0;
   const files = words.paths.length ? words.paths : [undefined];
   const lines = words.lines || files.length > 1;
   const act = lines ? (words.back ? backLines : forwardLines) : (words.back ? back : forward);

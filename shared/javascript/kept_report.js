@@ -6,10 +6,10 @@ const { ReportReader } = require('./report.js');
 const pairs = (registers, values) => registers.map((register, place) => [register, values[place]]);
 
 // `outcomes` are those from place `first` on, as many as `most`: each with its number, from 1, its values by register, the sources of its
-// reads and its memory-order; of a quick report with its group too. `other` has what the other lines say.
+// reads and its memory-order; of a quick report with its group too; or what `as` makes of these. `other` has what the other lines say.
 class KeptReport {
-  constructor(first, most) {
-    Object.assign(this, { first, most, place: 0, outcomes: [], other: {}, registers: [] });
+  constructor({ first = 0, most = 0, as = (outcome) => outcome }) {
+    Object.assign(this, { first, most, as, place: 0, outcomes: [], other: {}, registers: [] });
     this.reader = new ReportReader((part) => this.give(part));
     this.rest = '';
   }
@@ -31,6 +31,7 @@ class KeptReport {
     if (all.kind === 'refusal') {
       this.other.refused = `refused ${all.number} ${all.name}${all.line === undefined ? '' : ` line ${all.line}`}`;
     } else if (all.kind === 'schedule') {
+      this.registers = all.registers;
       Object.assign(this.other, { test: all.test, interleaving: pairs(all.registers, all.values), meets: all.meets ? 'yes' : 'no' });
     } else if (all.kind === 'quick') {
       this.registers = all.registers;
@@ -42,10 +43,10 @@ class KeptReport {
   keep({ values, from, order }, group) {
     this.place += 1;
     if (this.place <= this.first || this.place > this.first + this.most) return;
-    this.outcomes.push({
+    this.outcomes.push(this.as({
       number: this.place, values: pairs(this.registers, values), from: from.map(({ event, sources }) => [event, sources]), order,
       ...(group ? { group } : {}),
-    });
+    }));
   }
 
   // Takes a piece of what the program prints.
@@ -62,4 +63,9 @@ class KeptReport {
   }
 }
 
-module.exports = { KeptReport };
+// To keep the values of all outcomes alone, and what the exploring of JavaScript takes of them, or the number of a refusal.
+const VALUES = { most: Infinity, as: ({ values }) => values.map(([, value]) => value) };
+const valuesIn = ({ registers, outcomes, other }) => (
+  other.refused ? { refused: Number(other.refused.split(' ')[1]) } : { registers, outcomes, race: other.race === 'yes' });
+
+module.exports = { KeptReport, VALUES, valuesIn };

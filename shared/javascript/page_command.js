@@ -4,7 +4,7 @@
 const fs = require('fs');
 const path = require('path');
 const { Failure, TOP, endAtSignals, run, start } = require('./command.js');
-const { folder, number, readOptions } = require('./options.js');
+const { readOptions } = require('./options.js');
 const { serve } = require('./server.js');
 const { shown, strerror } = require('./system.js');
 
@@ -20,7 +20,7 @@ async function folderOf(named) {
 }
 
 async function main(given) {
-  const words = readOptions(given, { port: number(/^[0-9]{1,5}$/, 0, 65535, 8460), site: folder() }, ['', 0, 0]);
+  const words = readOptions(given, { most: 0 });
   if (words === null) return 0;
   // The port comes before the page is made, so that nobody waits for one that can't be had.
   let found;

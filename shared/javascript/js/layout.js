@@ -2,7 +2,7 @@
 // Where the bytes that the agents access stand in the block of a text, and what their values are there. docs/JAVASCRIPT.md has the
 // rules: initial contents by xor, and a word as one byte.
 
-const { BLOCK_LIMIT } = require('./limits.js');
+const limits = require('../../limits.json');
 const { Limit } = require('./refusal.js');
 const { isRead, keyOf } = require('./run.js');
 const { each } = require('./trees.js');
@@ -86,9 +86,9 @@ class Layout {
       at += cluster.bytes;
     }
     this.bytes = Math.max(1, at);
-    if (at > BLOCK_LIMIT) {
+    if (at > limits.block) {
       const [{ nodes }] = [...this.clusters].sort((a, b) => b.bytes - a.bytes);
-      throw new Limit(`the agents read and write ${at} bytes of shared memory, and ${BLOCK_LIMIT} are followed: leave some out, `
+      throw new Limit(`the agents read and write ${at} bytes of shared memory, and ${limits.block} are followed: leave some out, `
         + 'such as these', nodes[0].event.at);
     }
   }

@@ -369,4 +369,4 @@ class Run {
   }
 }
 
-module.exports = { Ends, MOST, Room, Run, isRead, keyOf, overlaps, writtenBy };
+module.exports = { Room, Run, isRead, keyOf, overlaps, writtenBy };

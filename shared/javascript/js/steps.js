@@ -39,4 +39,4 @@ function dataOf({ step, sources }, names, excerpt) {
   return made;
 }
 
-module.exports = { dataOf, placeOf, valueText };
+module.exports = { dataOf, placeOf };

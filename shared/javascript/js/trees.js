@@ -5,7 +5,7 @@
 const { vm } = require('./host.js');
 const { instrument } = require('./instrument.js');
 const { Limit, Refusal } = require('./refusal.js');
-const { REGISTERS } = require('./limits.js');
+const limits = require('../../limits.json');
 const { Room, Run, isRead, keyOf, overlaps, writtenBy } = require('./run.js');
 
 const MOST_RUNS = 1200;
@@ -133,11 +133,11 @@ function aloneIn(setting) {
 function seeAlone({ program, role, setting, name }) {
   const { events } = new Run(program, role, [], { ...setting, answer: aloneIn(setting) }).go();
   const reads = events.filter(({ op }) => isRead(op) && op !== 'choice');
-  if (reads.length > REGISTERS) throw tooManyReads(name, reads[REGISTERS].at);
+  if (reads.length > limits.registers) throw tooManyReads(name, reads[limits.registers].at);
 }
 
 function tooManyReads(name, at) {
-  return new Limit(`the agent ${name} reads more than ${REGISTERS} values on one way, one more here: take fewer turns, `
+  return new Limit(`the agent ${name} reads more than ${limits.registers} values on one way, one more here: take fewer turns, `
     + 'or a part of it', at);
 }
 
@@ -220,4 +220,4 @@ function unknownIn(tree, valuesAt) {
   return found;
 }
 
-module.exports = { Program, Tree, each, plant, tooManyReads, unknownIn, valueAfter };
+module.exports = { Program, each, plant, tooManyReads, unknownIn, valueAfter };

@@ -11,7 +11,7 @@ const { hideProgram, runProgram, stopProgram } = require('./program.js');
 const { savePng, saveSvg, saveText } = require('./save.js');
 const { setOutcomes, spoken } = require('./table.js');
 const { newText } = require('./turns.js');
-const { limits } = require('../limits.js');
+const limits = require('../../limits.json');
 const { signsOf } = require('../signs.js');
 const { linesOf, say, sayRacing, sayStopped, sayVerdict } = require('./verdict.js');
 
