@@ -12,7 +12,8 @@ class Program {
   // The report on the text of the file of this name, of which so much is kept as KeptReport says.
   report(name, data, words = [], kept = {}) {
     this.runs += 1;
-    return wholeReport(this.program, words, name, data, { ...kept, limit: Math.max(1, this.end - performance.now()), seconds: this.seconds });
+    const limit = Math.max(1, this.end - performance.now());
+    return wholeReport(this.program, words, name, data, { ...kept, limit, seconds: this.seconds });
   }
 }
 

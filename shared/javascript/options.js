@@ -1,6 +1,6 @@
 'use strict';
-// The words of a command, as its help tells them: docs/help/ has a line for each option, with what its value is called. S are seconds, N and
-// MB a whole number, in the range and with the default that the line tells; anything else is a text, and where there is no value a flag.
+// The words of a command, as its help tells them: docs/help/ has a line for each option, with what its value is called. S are seconds,
+// N and MB a whole number, in the range and with the default that the line tells; else it is a text, and where there is no value a flag.
 
 const os = require('os');
 const { parseArgs } = require('util');
@@ -35,9 +35,11 @@ function faultOf({ code, message }) {
 }
 
 function parted(given, options, many) {
-  const kinds = Object.entries(options).map(([name, { value }]) => [name, { type: value ? 'string' : 'boolean', multiple: many.includes(name) }]);
+  const kindOf = (name) => ({ type: options[name].value ? 'string' : 'boolean', multiple: many.includes(name) });
+  const kinds = Object.fromEntries(Object.keys(options).map((name) => [name, kindOf(name)]));
+  const args = given.map((word) => (word === '-h' ? '--help' : word));
   try {
-    return parseArgs({ args: given.map((word) => (word === '-h' ? '--help' : word)), options: Object.fromEntries(kinds), allowPositionals: true });
+    return parseArgs({ args, options: kinds, allowPositionals: true });
   } catch (error) {
     throw new Failure(2, faultOf(error));
   }

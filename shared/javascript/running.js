@@ -8,8 +8,8 @@ const { strerror } = require('./system.js');
 const SAID = 4096;  // bytes of a standard error that are kept
 
 // Runs a program on a text. Gives its status, or null where its time, in milliseconds, ran out or it was stopped; what it printed, and the
-// beginning of its standard error, or where it `shows` that it stands on this command's own. Where `take` is given what it prints goes there,
-// piece after piece, and is not kept; it is stopped once that gives false.
+// beginning of its standard error, or where it `shows` that it stands on this command's own. Where `take` is given what it prints goes
+// there, piece after piece, and is not kept; it is stopped once that gives false.
 async function runOf(program, words, data, { limit = null, take = null, shows = false } = {}) {
   const { child, ended } = start(program, words, ['pipe', 'pipe', shows ? 'inherit' : 'pipe']);
   const result = { status: null, signal: null, out: '', said: '', late: false, whole: true };

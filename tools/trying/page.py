@@ -5,7 +5,8 @@ import json
 import zlib
 
 from trying.browser import Browser
-from trying.serving import same, wait_for
+from trying.processes import wait_for
+from trying.serving import same
 
 TOLD = "document.querySelector('#verdict.is-told')"
 DRAWN = "document.querySelector('#picture svg') && document.querySelector('#picture').getAttribute('aria-busy') === 'false'"
@@ -62,7 +63,7 @@ class Page(Browser):
 
     def link(self):
         """The address, which takes a text a moment after it was written, once it holds the one that stands there, packed."""
-        wait_for(lambda: unpacked(self.value("location.hash").removeprefix("#t=~")) == self.text())
+        assert wait_for(lambda: unpacked(self.value("location.hash").removeprefix("#t=~")) == self.text())
         return self.value("location.href")
 
     def open_link(self, selector):

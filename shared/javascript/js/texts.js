@@ -210,8 +210,9 @@ function seeAccesses({ list }, layout) {
 class Texts {
   constructor(name, trees, layout) {
     Object.assign(this, { name, trees, layout, wakes: new Wakes(trees.list), made: [] });
-    if (trees.list.length > limits.agents) throw new Refusal(
-      `${trees.list.length} agents are started, and ${limits.agents} are followed: start fewer`, trees.list[limits.agents].role?.at ?? null);
+    const { length } = trees.list;
+    const { agents: most } = limits;
+    if (length > most) throw new Refusal(`${length} agents are started, and ${most} are followed: start fewer`, trees.list[most].role?.at ?? null);
     this.split(new Part());
   }
 
