@@ -6,7 +6,7 @@ const { Failure, readText } = require('./command.js');
 const { KeptReport, VALUES } = require('./kept_report.js');
 const { plain } = require('./lines.js');
 const { testIn, wholeReport } = require('./programs.js');
-const { readReport } = require('./report.js');
+const { readReports } = require('./report.js');
 const { strerror } = require('./system.js');
 const { namesOf } = require('./text/tests.js');
 
@@ -19,7 +19,7 @@ const allowedBy = ({ registers, outcomes, other }) => ({ registers, outcomes, ..
 // What stands in a file of a report.
 async function readReportFile(file) {
   const report = new KeptReport(VALUES);
-  await readReport(fs.createReadStream(file), (part) => report.give(part), () => undefined).catch((error) => {
+  await readReports(fs.createReadStream(file), () => (part) => report.give(part)).catch((error) => {
     throw error.syscall === undefined ? error : new Failure(4, `${plain(file)}: ${strerror(error)}`);
   });
   if (report.other.verdict === undefined || report.other.count === undefined) throw new Failure(1, `${plain(file)} has no report`);

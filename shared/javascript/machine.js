@@ -2,20 +2,14 @@
 // The machine that engines run on: which processors this process may use, how busy they are, and who has which. Busy is what /proc
 // says, so that it is known on Linux alone; elsewhere all processors count as free.
 
-const fs = require('fs');
 const os = require('os');
+const { readOf } = require('./processes.js');
 
 const SPAN = 100;             // milliseconds that a sample has to span at least
 
 // Ticks that each processor was busy and was there, since the machine began.
 function ticksOf() {
-  let text = '';
-  try {
-    text = fs.readFileSync('/proc/stat', 'latin1');
-  } catch {
-    // There is no /proc.
-  }
-  return new Map([...text.matchAll(/^cpu([0-9]+) (.*)$/gm)].map(([, number, rest]) => {
+  return new Map([...(readOf('stat') ?? '').matchAll(/^cpu([0-9]+) (.*)$/gm)].map(([, number, rest]) => {
     const [user, nice, system, idle, wait, irq, softirq, steal] = rest.trim().split(' ').map(Number);
     const busy = user + nice + system + irq + softirq + steal;
     return [Number(number), { busy, all: busy + idle + wait }];
@@ -24,12 +18,7 @@ function ticksOf() {
 
 // The processors that this process may use.
 function allowed() {
-  let list;
-  try {
-    list = /^Cpus_allowed_list:\s*(.*)$/m.exec(fs.readFileSync('/proc/self/status', 'latin1'))?.[1];
-  } catch {
-    // There is no /proc.
-  }
+  const list = /^Cpus_allowed_list:\s*(.*)$/m.exec(readOf('self/status') ?? '')?.[1];
   if (list === undefined) return os.cpus().map((_, number) => number);
   return list.split(',').flatMap((part) => {
     const [first, last] = part.split('-').map(Number);

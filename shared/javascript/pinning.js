@@ -3,23 +3,11 @@
 // the busiest; a thread that sleeps and is woken again and again is else put onto the processor of the one that wakes it, where the
 // two never run at a time. By `taskset`, so on Linux; where there is none nothing is done.
 
-const fs = require('fs');
 const { execFile } = require('child_process');
-const { readOf } = require('./processes.js');
+const { namesIn, processOf } = require('./processes.js');
 
-function threadsOf(pid) {
-  let names = [];
-  try {
-    names = fs.readdirSync(`/proc/${pid}/task`);
-  } catch {
-    // It has ended.
-  }
-  return names.map((thread) => {
-    const text = readOf(pid, `task/${thread}/stat`);
-    const words = text === null ? [] : text.slice(text.lastIndexOf(')') + 2).split(' ');
-    return { thread, ticks: Number(words[11] ?? 0) + Number(words[12] ?? 0) };
-  });
-}
+const threadsOf = (pid) => namesIn(`/proc/${pid}/task`).map((thread) => (
+  { thread, ticks: processOf(pid, `${pid}/task/${thread}`)?.ticks ?? 0 }));
 
 class Pinning {
   constructor(processors) {

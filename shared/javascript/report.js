@@ -105,7 +105,6 @@ class ReportReader {
     return this.match(line, 'verdict', '`verdict`')[1];
   }
 
-
   * example(values) {
     const from = [];
     let line = yield;
@@ -201,22 +200,12 @@ function linesOf(part, registers) {
   return LINES_OF_ALL[part.all.kind](part.all);
 }
 
-// Gives each part of the report that a stream holds, and calls `after` after each line.
-async function readReport(stream, give, after) {
-  const reader = new ReportReader(give);
-  await eachLine(stream, (line) => {
-    reader.line(line);
-    return after();
-  });
-  reader.line(null);
-}
-
-// The same of several reports, one after the other; `begin` is called for each, and returns what its parts are given to. No line
-// but its first begins as that does.
-async function readReports(stream, begin, after) {
+// Gives each part of the report that a stream holds, or of `several`, one after the other; `begin` is called for each, and returns what its
+// parts are given to, `after` after each line. No line of a report but its first begins as that does.
+async function readReports(stream, begin, { after = () => undefined, several = false } = {}) {
   let reader = new ReportReader(begin());
   await eachLine(stream, (line) => {
-    if (reader.number > 0 && /^(?:test|refused) /.test(line)) {
+    if (several && reader.number > 0 && /^(?:test|refused) /.test(line)) {
       reader.line(null);
       reader = new ReportReader(begin());
     }
@@ -226,4 +215,4 @@ async function readReports(stream, begin, after) {
   reader.line(null);
 }
 
-module.exports = { FORM, ReportReader, jsonWriter, linesOf, readReport, readReports };
+module.exports = { FORM, ReportReader, jsonWriter, linesOf, readReports };

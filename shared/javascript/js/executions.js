@@ -7,9 +7,9 @@ const { dataOf, placeOf } = require('./steps.js');
 const { Straight, wayOf } = require('./straight.js');
 
 class Executions {
-  // `why` gives what jslit-why says of a text with these words; `places` tells where lines are.
-  constructor(name, program, trees, places, why) {
-    Object.assign(this, { name, program, trees, places, why, names: trees.list.map((tree) => tree.name) });
+  // `why` gives what jslit-why says of a text with these words; `asKnown` where something stands, as the user knows it.
+  constructor(name, program, trees, asKnown, why) {
+    Object.assign(this, { name, program, trees, asKnown, why, names: trees.list.map((tree) => tree.name) });
   }
 
   data(steps) {
@@ -27,8 +27,7 @@ class Executions {
 
   // The same with the user's own places.
   placed(step) {
-    const own = ({ file, line, ...rest }) =>
-      (file === undefined ? rest : { ...rest, ...(file === null ? { file, line } : this.places.at({ file, line })) });
+    const own = ({ file, line, ...rest }) => (file === undefined ? rest : { ...rest, ...this.asKnown({ file, line }) });
     return { ...own(step), ...(step.from ? { from: step.from.map(own) } : {}) };
   }
 

@@ -2,7 +2,7 @@
 // The files of a program as its user knows them; the harness stands behind the main one, from line `harness.from` on.
 
 const { plain } = require('../lines.js');
-const { Places } = require('./places.js');
+const { placesOf } = require('./places.js');
 const { Printer } = require('./print.js');
 
 const CODE = 56;   // characters of a line of code that are shown
@@ -27,7 +27,7 @@ class Sources {
   }
 
   at(at) {
-    return at?.file ? new Places(this.main, this.harness).at(at) : { file: null, line: null };
+    return placesOf(this.main, this.harness)(at);
   }
 
   // Where something is, as the user knows it.
