@@ -3,6 +3,7 @@
 
 const fs = require('fs');
 const path = require('path');
+const { parseArgs } = require('util');
 const { help, readText, run } = require('./command.js');
 const { plain } = require('./lines.js');
 const { notesOfReport, reported } = require('./noting.js');
@@ -14,7 +15,7 @@ const { advice } = require('./text/refusals.js');
 const { adviceOnWords } = require('./text/command_words.js');
 const { pathOf } = require('./words.js');
 
-const VALUED = ['--workers', '--cut', '--schedule', '--most', '--choice', '--from', '--condition'];
+const VALUED = ['workers', 'cut', 'schedule', 'most', 'choice', 'from', 'condition'];
 const LIMIT = 10000;         // milliseconds until it refuses or begins a report
 const LIMIT_OF_NOTES = 2000; // for a report whose examples notes are about
 const WIDTH = 100;
@@ -30,18 +31,11 @@ const utf8 = (text) => Buffer.from(text, 'latin1').toString('utf8');
 
 // The places of the files' names among the program's words, and the schedule's text, or null, as the program reads them.
 function parsed(words) {
-  const places = [];
-  let schedule = null;
-  for (let place = 0; place < words.length; place += 1) {
-    const word = words[place];
-    if (word === '--') return { places: [...places, ...words.keys()].filter((at) => at > place || places.includes(at)), schedule };
-    const [flag, ...rest] = word.split('=');
-    if (VALUED.includes(flag)) {
-      const value = word.includes('=') ? rest.join('=') : words[place += 1] ?? '';
-      if (flag === '--schedule') schedule = value;
-    } else if (word === '-' || !word.startsWith('-')) places.push(place);
-  }
-  return { places, schedule };
+  const options = Object.fromEntries(VALUED.map((name) => [name, { type: 'string' }]));
+  const { tokens } = parseArgs({ args: words, options, strict: false, allowPositionals: true, tokens: true });
+  const places = tokens.filter(({ kind }) => kind === 'positional').map(({ index }) => index);
+  const schedules = tokens.filter(({ name }) => name === 'schedule').map(({ value }) => value ?? '');
+  return { places, schedule: schedules.at(-1) ?? null };
 }
 
 // The name by which a standard input that is a file can be read anew.

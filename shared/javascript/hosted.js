@@ -9,11 +9,7 @@ const { pathOf } = require('./words.js');
 const clean = (text) => String(text).replace(/[\0-\x08\x0b\x0c\x0e-\x1f\ud800-\udfff\ufffe\uffff]/gu, '?');
 const escape = (text) => clean(text).replace(/&/g, '&amp;').replace(/>/g, '&gt;').replace(/</g, '&lt;');
 
-function attribute(text) {
-  const inside = escape(text).replace(/[\n\r\t]/g, (sign) => `&#${sign.charCodeAt(0)};`);
-  if (!inside.includes('"')) return `"${inside}"`;
-  return inside.includes("'") ? `"${inside.replace(/"/g, '&quot;')}"` : `'${inside}'`;
-}
+const attribute = (text) => `"${escape(text).replace(/[\n\r\t"]/g, (sign) => `&#${sign.charCodeAt(0)};`)}"`;
 
 // A suite with a case for each file, in a file that is written anew.
 class Junit {

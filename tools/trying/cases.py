@@ -52,6 +52,13 @@ def named_program():
     return built(next(iter(sys.argv[1:]), None))
 
 
+def where_full(*words, **more):
+    """The status and what is said where the output takes nothing."""
+    with open("/dev/full", "w") as full:
+        run = subprocess.run(words, stdout=full, stderr=subprocess.PIPE, text=True, **more)
+    return run.returncode, run.stderr
+
+
 def said(*words, **more):
     """What a command prints, which has to end with status 0."""
     run = subprocess.run(words, capture_output=True, text=True, timeout=3000, **more)

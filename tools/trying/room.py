@@ -4,6 +4,7 @@ import pathlib
 import subprocess
 
 from litmus.program import TOP
+from trying.cases import where_full
 
 
 class Room:
@@ -34,10 +35,7 @@ class Room:
         return run.stdout + run.stderr
 
     def where_full(self, *words):
-        """The status and what is said where the output takes nothing."""
-        with open("/dev/full", "w") as full:
-            run = subprocess.run(self.line(*words), cwd=self.folder, stdout=full, stderr=subprocess.PIPE, text=True)
-        return run.returncode, run.stderr
+        return where_full(*self.line(*words), cwd=self.folder)
 
     def write(self, name, text):
         (self.folder / name).write_bytes(text.encode())

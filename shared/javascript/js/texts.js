@@ -212,7 +212,8 @@ class Texts {
     Object.assign(this, { name, trees, layout, wakes: new Wakes(trees.list), made: [] });
     const { length } = trees.list;
     const { agents: most } = limits;
-    if (length > most) throw new Refusal(`${length} agents are started, and ${most} are followed: start fewer`, trees.list[most].role?.at ?? null);
+    const at = trees.list[most]?.role?.at ?? null;
+    if (length > most) throw new Refusal(`${length} agents are started, and ${most} are followed: start fewer`, at);
     this.split(new Part());
   }
 

@@ -6,7 +6,7 @@ const { vm } = require('./host.js');
 const { instrument } = require('./instrument.js');
 const { Limit, Refusal } = require('./refusal.js');
 const limits = require('../../limits.json');
-const { Room, Run, isRead, keyOf, overlaps, writtenBy } = require('./run.js');
+const { Room, Run, byteOf, isRead, keyOf, overlaps, writtenBy } = require('./run.js');
 
 const MOST_RUNS = 1200;
 
@@ -115,7 +115,7 @@ function valueAfter(setting, read, writes) {
   for (const { event, written } of writes.filter((write) => write.written !== null && overlaps(write.event, read))) {
     for (let place = 0; place < event.size; place += 1) {
       const at = event.first + place - read.first;
-      if (at >= 0 && at < read.size) bytes[at] = Math.floor(written / 256 ** place) % 256;
+      if (at >= 0 && at < read.size) bytes[at] = byteOf(written, place);
     }
   }
   return bytes.reduceRight((value, byte) => value * 256 + byte, 0);
