@@ -3,10 +3,9 @@
 
 const fs = require('fs');
 const { Failure, readText } = require('./command.js');
-const { KeptReport, VALUES } = require('./kept_report.js');
 const { plain } = require('./lines.js');
 const { testIn, wholeReport } = require('./programs.js');
-const { readReports } = require('./report.js');
+const { KeptReport, VALUES, readReports } = require('./report.js');
 const { strerror } = require('./system.js');
 const { namesOf } = require('./text/tests.js');
 

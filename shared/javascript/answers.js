@@ -1,8 +1,8 @@
 'use strict';
 // What the proved programs answer to commands: jslit by its report, jslit-text by what it says of a text, jslit-why by its JSON.
 
-const { KeptReport } = require('./kept_report.js');
 const { Failure, plain } = require('./lines.js');
+const { KeptReport } = require('./report.js');
 const { runOf } = require('./running.js');
 const { Execution, fromWords } = require('./executions/execution.js');
 

@@ -1,12 +1,10 @@
 'use strict';
 // The command jslit-atomize.
 
-const { Accesses } = require('./atomics.js');
-const { Program } = require('./asked.js');
 const { Failure, readText, run } = require('./command.js');
-const { Question, Search, givenUp } = require('./guards.js');
+const { Accesses, Question, Search, givenUp } = require('./guards.js');
 const { readOptions } = require('./options.js');
-const { namedProgram } = require('./programs.js');
+const { Program, namedProgram } = require('./programs.js');
 
 const spoken = (lines) => (lines.length ? `line${lines.length > 1 ? 's' : ''} ${lines.join(', ')}` : 'none');
 

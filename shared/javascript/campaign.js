@@ -8,15 +8,13 @@ const path = require('path');
 const { keyOf, testAndReport } = require('./allowed.js');
 const { Failure, isStopping, makeFolder, readText } = require('./command.js');
 const { runEngine } = require('./engine.js');
-const { keep } = require('./keep.js');
+const { keep, reasonsOf } = require('./keep.js');
 const { Fault, plain } = require('./lines.js');
 const { mixesSizes } = require('./code.js');
 const { Machine } = require('./machine.js');
-const { programOf } = require('./program.js');
+const { programOf, settingsOf } = require('./program.js');
 const { findProgram } = require('./programs.js');
-const { reasonsOf } = require('./reasons.js');
 const { FORM } = require('./record.js');
-const { settingsOf } = require('./settings.js');
 const { toldBy } = require('./told.js');
 const { VERSION } = require('./version.js');
 

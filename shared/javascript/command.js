@@ -9,9 +9,8 @@ const { spawn } = require('child_process');
 const { Failure, Fault, plain } = require('./lines.js');
 const limits = require('../limits.json');
 const { VARIABLE } = require('./processes.js');
-const { shown, strerror } = require('./system.js');
+const { givenWords, pathOf, shown, strerror } = require('./system.js');
 const { VERSION } = require('./version.js');
-const { givenWords, pathOf } = require('./words.js');
 
 const TOP = path.resolve(__dirname, '..', '..');
 const JSLIT = path.join(TOP, 'bin', 'jslit');

@@ -1,11 +1,10 @@
 'use strict';
 // The command jslit-compare.
 
-const { Program } = require('./asked.js');
 const { Failure, readText, run } = require('./command.js');
 const { plain } = require('./lines.js');
 const { readOptions } = require('./options.js');
-const { byJslitJs, namedProgram } = require('./programs.js');
+const { Program, byJslitJs, namedProgram } = require('./programs.js');
 const { linesOf } = require('./report.js');
 const { printedName, write } = require('./runs.js');
 const { filesIn, isFolder } = require('./tests_in.js');

@@ -3,7 +3,6 @@
 
 const fs = require('fs');
 const path = require('path');
-const { Program } = require('./asked.js');
 const { Failure, run } = require('./command.js');
 const { cycleOf } = require('./cycles/cycle.js');
 const { wordOf } = require('./cycles/edges.js');
@@ -13,9 +12,9 @@ const { Writer } = require('./cycles/writing.js');
 const { plain } = require('./lines.js');
 const { readOptions } = require('./options.js');
 const { inOrder } = require('./pool.js');
-const { namedProgram } = require('./programs.js');
+const { Program, namedProgram } = require('./programs.js');
 const { spoken, write } = require('./runs.js');
-const { pathOf } = require('./words.js');
+const { pathOf } = require('./system.js');
 
 const HEADS = ['tests', 'always', 'sometimes', 'never', 'data race'];
 

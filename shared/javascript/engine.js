@@ -4,9 +4,8 @@
 const { Failure, MARK, start, stop } = require('./command.js');
 const { startedBy } = require('./identity.js');
 const { plain } = require('./lines.js');
-const { busySince, ticksOf } = require('./machine.js');
+const { Pinning, busySince, ticksOf } = require('./machine.js');
 const { Output, WORDS } = require('./output.js');
-const { Pinning } = require('./pinning.js');
 const { Processes } = require('./processes.js');
 
 const LOOKS = 200, FIRST_LOOK = 50;  // milliseconds between two looks at the memory and the threads, and before the first

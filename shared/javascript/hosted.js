@@ -2,8 +2,7 @@
 // Results of tests in the forms that hosted runs take: a file of JUnit's XML, and annotations, a command of a workflow on a line.
 
 const fs = require('fs');
-const { shown } = require('./system.js');
-const { pathOf } = require('./words.js');
+const { pathOf, shown } = require('./system.js');
 
 // A text without what XML can't have, however it is written.
 const clean = (text) => String(text).replace(/[\0-\x08\x0b\x0c\x0e-\x1f\ud800-\udfff\ufffe\uffff]/gu, '?');

@@ -7,7 +7,7 @@ const { Fault, Writer, plain } = require('./lines.js');
 const { ReportReader, jsonWriter, linesOf, readReports } = require('./report.js');
 const { readJson } = require('./json.js');
 const { readOptions } = require('./options.js');
-const { pathOf } = require('./words.js');
+const { pathOf } = require('./system.js');
 
 // Takes the parts of a report to its JSON, which names the file where it is one of several.
 function forwardWriter(writer, several, file) {

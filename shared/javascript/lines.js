@@ -13,7 +13,7 @@ class Failure extends Error {
   }
 }
 
-// A text as a terminal may be given it, on one line: control characters stand as numbers, and bytes that are no UTF-8 (words.js).
+// A text as a terminal may be given it, on one line: control characters stand as numbers, and bytes that are no UTF-8 (system.js).
 const plain = (text) => String(text).replace(/[\x00-\x1f\x7f-\x9f\udc80-\udcff]/g, (sign) => (
   `\\x${(sign.charCodeAt(0) & 255).toString(16).padStart(2, '0')}`));
 

@@ -3,7 +3,8 @@
 // says, so that it is known on Linux alone; elsewhere all processors count as free.
 
 const os = require('os');
-const { readOf } = require('./processes.js');
+const { execFile } = require('child_process');
+const { namesIn, processOf, readOf } = require('./processes.js');
 
 const SPAN = 100;             // milliseconds that a sample has to span at least
 
@@ -91,4 +92,46 @@ function busySince(before) {
   return [...busyBetween(before, ticksOf()).values()].reduce((sum, part) => sum + part, 0);
 }
 
-module.exports = { Machine, busySince, ticksOf };
+const threadsOf = (pid) => namesIn(`/proc/${pid}/task`).map((thread) => (
+  { thread, ticks: processOf(pid, `${pid}/task/${thread}`)?.ticks ?? 0 }));
+
+// Gives each agent of an engine a processor of its own. Engines don't say which of their threads runs which agent, but agents are
+// the busiest; a thread that sleeps and is woken again and again is else put onto the processor of the one that wakes it, where the
+// two never run at a time. By `taskset`, so on Linux; where there is none nothing is done.
+class Pinning {
+  constructor(processors) {
+    this.processors = processors;
+    this.before = new Map();      // ticks of threads at the last look
+    this.pinned = new Map();      // processors of threads
+  }
+
+  // Looks at all threads of these processes, and pins those that have been busiest since the last look.
+  look(pids) {
+    if (this.processors.length < 2) return;
+    const threads = pids.flatMap(threadsOf);
+    const used = threads.map(({ thread, ticks }) => ({ thread, used: ticks - (this.before.get(thread) ?? 0) }));
+    this.before = new Map(threads.map(({ thread, ticks }) => [thread, ticks]));
+    const busiest = used.sort((one, other) => other.used - one.used).slice(0, this.processors.length).filter((each) => each.used > 0);
+    const chosen = new Set(busiest.map(({ thread }) => thread));
+    if (busiest.length < this.processors.length) return;
+    for (const thread of [...this.pinned.keys()]) if (!chosen.has(thread)) this.release(thread);
+    const free = this.processors.filter((number) => ![...this.pinned.values()].includes(number));
+    for (const thread of chosen) if (!this.pinned.has(thread)) this.pin(thread, free.shift());
+  }
+
+  pin(thread, number) {
+    this.pinned.set(thread, number);
+    this.set(thread, String(number));
+  }
+
+  release(thread) {
+    this.pinned.delete(thread);
+    this.set(thread, this.processors.join(','));
+  }
+
+  set(thread, list) {
+    execFile('taskset', ['-cp', list, thread], () => {});
+  }
+}
+
+module.exports = { Machine, Pinning, busySince, ticksOf };

@@ -48,6 +48,21 @@ async function testIn(name, data) {
   return test;
 }
 
+// A program that is asked of texts, within a limit of time for all of them together.
+class Program {
+  // By so many `runs` so far, which have so many seconds together from now on.
+  constructor(program, seconds) {
+    Object.assign(this, { program, seconds, end: performance.now() + seconds * 1000, runs: 0 });
+  }
+
+  // The report on the text of the file of this name, of which so much is kept as KeptReport says.
+  report(name, data, words = [], kept = {}) {
+    this.runs += 1;
+    const limit = Math.max(1, this.end - performance.now());
+    return answers.wholeReport(this.program, words, name, data, { ...kept, limit, seconds: this.seconds });
+  }
+}
+
 // The status of jslit-js, which has these words and what this command has of a terminal.
 async function byJslitJs(program, words) {
   const named = program === null ? [] : ['--program', program];
@@ -56,4 +71,4 @@ async function byJslitJs(program, words) {
   return signal ? 128 - statusOf({ signal }) : status;
 }
 
-module.exports = { TOP, builtProgram, byJslitJs, namedProgram, placeOf, findProgram, testIn, ...answers };
+module.exports = { Program, TOP, builtProgram, byJslitJs, namedProgram, placeOf, findProgram, testIn, ...answers };

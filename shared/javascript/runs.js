@@ -9,9 +9,8 @@ const { notesOfReport, reported } = require('./noting.js');
 const { inOrder } = require('./pool.js');
 const { testIn } = require('./programs.js');
 const { runOf } = require('./running.js');
-const { statusOf, strerror } = require('./system.js');
+const { pathOf, statusOf, strerror } = require('./system.js');
 const { VERSION } = require('./version.js');
-const { pathOf } = require('./words.js');
 
 const EXPECT = /(?<![^\n])\/\/ expect:([^\n]*)/g;
 const FORM = /^ verdict ([a-z]+), outcomes ([0-9]+), data race ([a-z]+)[ \t\r]*$/;

@@ -6,7 +6,7 @@ const fs = require('fs');
 const path = require('path');
 const { Failure } = require('./command.js');
 const { plain } = require('./lines.js');
-const { pathOf, wordOf } = require('./words.js');
+const { pathOf, wordOf } = require('./system.js');
 
 const joined = (folder, name) => (folder.endsWith('/') ? folder + name : `${folder}/${name}`);
 const byName = (one, other) => (one < other ? -1 : Number(one > other));

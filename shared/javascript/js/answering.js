@@ -4,8 +4,8 @@
 const { answerOf, checkIn } = require('./answer.js');
 const { Details, plain } = require('./details.js');
 const { Exploring } = require('./explore.js');
-const { placesOf } = require('./places.js');
 const { Limit, Refusal } = require('./refusal.js');
+const { placesOf } = require('./sources.js');
 const { Program } = require('./trees.js');
 
 const WORDS = {

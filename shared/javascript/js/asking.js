@@ -4,10 +4,10 @@
 const os = require('os');
 const path = require('path');
 const { Failure } = require('../command.js');
-const { KeptReport, VALUES, valuesIn } = require('../kept_report.js');
 const { plain } = require('../lines.js');
 const { limited } = require('../pool.js');
 const { builtProgram, findProgram } = require('../programs.js');
+const { KeptReport, VALUES, valuesIn } = require('../report.js');
 const { runOf } = require('../running.js');
 
 const RUNS = Math.max(1, os.cpus().length);   // of the programs, at a time

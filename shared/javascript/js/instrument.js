@@ -7,16 +7,13 @@ const { Excerpts } = require('./excerpt.js');
 const { deadAt } = require('./liveness.js');
 const { parse } = require('./parse.js');
 const { Refusal } = require('./refusal.js');
+const { GLOBALS } = require('./state.js');
 
 const MODULES = /^(node:)?(worker_threads|assert|assert\/strict)$/;
-const KNOWN = new Set((`undefined NaN Infinity globalThis self Object Function Array String Number Boolean Symbol Math JSON Map Set WeakMap
-  WeakSet WeakRef Error TypeError RangeError SyntaxError ReferenceError EvalError URIError AggregateError Promise Proxy
-  Reflect BigInt isNaN isFinite parseInt parseFloat RegExp encodeURIComponent decodeURIComponent encodeURI decodeURI Intl
-  Iterator Atomics SharedArrayBuffer ArrayBuffer DataView Int8Array Uint8Array Uint8ClampedArray Int16Array Uint16Array
-  Int32Array Uint32Array Float32Array Float64Array BigInt64Array BigUint64Array WebAssembly Worker postMessage onmessage
-  addEventListener require module exports __filename __dirname console assert agents $262 performance Date setTimeout
-  setInterval setImmediate requestAnimationFrame process arguments crypto structuredClone close queueMicrotask URL eval
-  print fetch importScripts XMLHttpRequest WebSocket EventSource`).split(/\s+/));
+const KNOWN = new Set([...GLOBALS, ...`undefined NaN Infinity self isNaN isFinite parseInt parseFloat encodeURIComponent decodeURIComponent
+  encodeURI decodeURI Iterator Worker postMessage onmessage addEventListener require module exports __filename __dirname console assert
+  agents $262 performance setTimeout setInterval setImmediate requestAnimationFrame process arguments crypto structuredClone close
+  queueMicrotask URL eval print fetch importScripts XMLHttpRequest WebSocket EventSource`.split(/\s+/)]);
 
 const REFUSED = {
   AwaitExpression: '`await` isn\'t followed: write what comes after it as a function of its own, an agent or a part of one',
