@@ -20,7 +20,8 @@ const INSTEAD = {
   '--why': ['jslit-why', 'says why no execution meets the condition'], '--unmet': ['jslit-why --unmet', 'says why none fails it'],
   '--json': ['jslit %s | jslit-json', 'writes a report as JSON'], '--draw': ['jslit-draw', 'draws an execution'],
   '--dot': ['jslit-draw', 'draws an execution'], '--explain': ['jslit-explain', 'says what to write for a line that is refused'],
-  '--notes': ['jslit-check --notes', 'says where a text may not mean what one thinks'], '--engine': ['jslit-engine', 'runs a test on an engine'],
+  '--notes': ['jslit-check --notes', 'says where a text may not mean what one thinks'],
+  '--engine': ['jslit-engine', 'runs a test on an engine'],
   '--threads': ['jslit --workers N', 'searches by N workers'], '-j': ['jslit --workers N', 'searches by N workers'],
   '-q': ['jslit --quick', 'answers the verdict, with an example of each class'],
 };

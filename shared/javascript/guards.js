@@ -1,7 +1,7 @@
 'use strict';
-// The accesses of a text, of which some may go through Atomics or not, and sets of them that are enough where they alone do: for the verdict
-// that the text has with all of them doing so, for no data race, or for both. Whether a set is enough is asked of the program each time:
-// nothing is taken to follow for a larger one.
+// The accesses of a text, of which some may go through Atomics or not, and sets of them that are enough where they alone do: for the
+// verdict that the text has with all of them doing so, for no data race, or for both. Whether a set is enough is asked of the program each
+// time: nothing is taken to follow for a larger one.
 
 const { lineOf } = require('./code.js');
 const { inOrder } = require('./pool.js');

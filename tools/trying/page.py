@@ -24,9 +24,6 @@ class Page(Browser):
         super().__init__()
         self.site, self.address, self.program, self.shots = site, address, site.program, shots
 
-    def start(self):
-        self.open(self.address)
-
     def take(self, text):
         """Writes the text as a user does, in place of the one that stands there."""
         self.value("document.querySelector('#text').focus(); document.querySelector('#text').select()")
@@ -93,6 +90,6 @@ class Page(Browser):
 
 def with_page(case, site, serving, folder, shots):
     with serving(folder) as address, contextlib.closing(Page(site, address, shots)) as page:
-        page.start()
+        page.open(address)
         case(page)
         same(page.faults(), [])

@@ -4,7 +4,6 @@ import pathlib
 import subprocess
 
 from litmus.program import TOP
-from trying.cases import where_full
 
 
 class Room:
@@ -33,9 +32,6 @@ class Room:
         """What it prints on both outputs."""
         run = self.ended(*words, **more)
         return run.stdout + run.stderr
-
-    def where_full(self, *words):
-        return where_full(*self.line(*words), cwd=self.folder)
 
     def write(self, name, text):
         (self.folder / name).write_bytes(text.encode())

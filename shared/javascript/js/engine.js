@@ -5,12 +5,13 @@ const path = require('path');
 const { Failure, grouped } = require('../command.js');
 const { plain } = require('../lines.js');
 const { runOf } = require('../running.js');
+const { textOf } = require('./answer.js');
 const { shown } = require('./values.js');
 
 const REAL = path.join(__dirname, 'real.js');
 
 // What an agent gave, as an outcome tells it.
-function textOf({ logs, value, threw }) {
+function wordsOf({ logs, value, threw }) {
   const end = threw !== undefined ? [`throws ${threw}`] : value.type === 'undefined' ? [] : [shown(value)];
   return [...logs, ...end].join(' | ');
 }
@@ -19,8 +20,7 @@ function textOf({ logs, value, threw }) {
 function counted({ names, results }) {
   const counts = new Map();
   for (let time = 0; time < results[0].length; time += 1) {
-    const text = names.map((name, place) => [name, textOf(results[place][time])]).filter(([, words]) => words !== '')
-      .map(([name, words]) => `${name}: ${words}`).join('   ');
+    const text = textOf(names, results.map((each) => wordsOf(each[time])));
     counts.set(text, (counts.get(text) ?? 0) + 1);
   }
   return counts;
