@@ -9,7 +9,6 @@
 const fs = require('fs');
 const { spawn } = require('child_process');
 const limits = require('../../shared/limits.json');
-const { lineOf } = require('../../shared/javascript/code.js');
 const { accessesOf, branchesOf, isIf } = require('../../shared/javascript/text/tests.js');
 
 const AT_A_TIME = 8;
@@ -89,9 +88,12 @@ function shownCondition(condition) {
   return condition[kind].map((member) => inner(member, WHOLE[kind] - 1)).join(kind === 'all' ? ' && ' : ' || ');
 }
 
-function shownAccess(access) {
-  if (access.values.length !== ARGUMENTS[access.kind]) throw new Error(`${access.kind} with ${access.values.length} numbers`);
-  return lineOf(access);
+function shownAccess({ kind, atomic, view, bits, place, register, values }) {
+  if (values.length !== ARGUMENTS[kind]) throw new Error(`${kind} with ${values.length} numbers`);
+  const written = register === null ? '' : `r${register} = `;
+  if (atomic) return `${written}Atomics.${kind}(${[view, place, ...values].join(', ')})`;
+  if (view !== 'DV') return `${written}${view}[${place}]${kind === 'store' ? ` = ${values[0]}` : ''}`;
+  return `${written}DV.${kind === 'load' ? 'get' : 'set'}Uint${bits}(${[place, ...values, ...(bits === 8 ? [] : ['true'])].join(', ')})`;
 }
 
 const shownStatements = (statements) => statements.flatMap((statement) => {
