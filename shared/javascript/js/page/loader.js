@@ -37,7 +37,8 @@ function close() {
   Object.defineProperty(scope, 'SharedArrayBuffer', { value: Block, writable: true, configurable: true });
 }
 
-// Modules as Node has them. Each has the objects of ECMAScript as they were first, whatever stands in the global ones later.
+// Modules as Node has them; a package goes by its name. Each has the objects of ECMAScript as they were first, whatever stands in the
+// global ones later.
 function loaderOf(sources) {
   const modules = new Map();
   const names = KEPT.filter((name) => name in scope);
@@ -50,7 +51,7 @@ function loaderOf(sources) {
     const { source, places } = sources[place];
     if (place.endsWith('.json')) module.exports = JSON.parse(source);
     else new Made('require', 'module', 'exports', ...names, `${source}\n//# sourceURL=jslit:${place}`)(
-      (name) => load(places[name]), module, module.exports, ...values);
+      (name) => load(places[name] ?? name), module, module.exports, ...values);
     return module.exports;
   };
   return load;
