@@ -1,6 +1,6 @@
 // What a worker of an engine runs: script text that program.js puts behind the function `copy` of an agent and these
 // constants: AGENT and AGENTS, its number and how many there are; REGISTERS, how many values an outcome has; SETTINGS, of
-// settings.js. It calls `say` of its host to write a line.
+// program.js. It calls `say` of its host to write a line.
 'use strict';
 
 const COPIES = SETTINGS.copies;

@@ -1,11 +1,10 @@
 'use strict';
 // The command jslit-atomize.
 
-const { Accesses } = require('./atomics.js');
-const { Late, Program, givenText, programOf } = require('./asked.js');
-const { run } = require('./command.js');
-const { Question, Search, givenUp } = require('./guards.js');
-const { flag, jobs, readOptions, seconds, text } = require('./options.js');
+const { Failure, readText, run } = require('./command.js');
+const { Accesses, Question, Search, givenUp } = require('./guards.js');
+const { readOptions } = require('./options.js');
+const { Program, namedProgram } = require('./programs.js');
 
 const spoken = (lines) => (lines.length ? `line${lines.length > 1 ? 's' : ''} ${lines.join(', ')}` : 'none');
 
@@ -53,22 +52,20 @@ async function searched(program, data, { file, asked, all, jobs: most }) {
   if (!all) return { accesses, question, sets: [await givenUp(question)].filter(Boolean) };
   const search = new Search(question, most);
   const sets = await search.least().catch((error) => {
-    throw error instanceof Late ? new Late(`${error.message}; no set of fewer than ${search.size} is enough`) : error;
+    throw error.status === 5 ? new Failure(5, `${error.message}; no set of fewer than ${search.size} is enough`) : error;
   });
   return { accesses, question, sets };
 }
 
 async function main(given) {
-  const words = readOptions(given, {
-    program: text(), race: flag('verdict'), verdict: flag('race'), all: flag(), time: seconds(60), jobs: jobs(),
-  }, ['file', 1, 1]);
+  const words = readOptions(given, { apart: [['race', 'verdict']], least: 1, most: 1 });
   if (words === null) return 0;
   const [file] = words.paths;
-  const data = givenText(file);
-  const program = new Program(await programOf(words.program), words.time);
+  const data = readText(file);
+  const program = new Program(await namedProgram(words.program), words.time);
   const asked = words.race ? 'race' : words.verdict ? 'verdict' : 'both';
   const { accesses, question, sets } = await searched(program, data, { ...words, file, asked }).catch((error) => {
-    throw error instanceof Late ? new Late(`${error.message}; runs: ${program.runs}`) : error;
+    throw error.status === 5 ? new Failure(5, `${error.message}; runs: ${program.runs}`) : error;
   });
   const lines = [...told(question, sets, words.all), `Runs: ${program.runs}.`].map((line) => `// ${line}`);
   process.stdout.write(`${[...markedLines(accesses, sets), ...lines].join('\n')}\n`);

@@ -5,17 +5,16 @@ const crypto = require('crypto');
 const fs = require('fs');
 const os = require('os');
 const path = require('path');
-const { Allowed, testAndReport, useProgram } = require('./allowed.js');
+const { keyOf, testAndReport } = require('./allowed.js');
 const { Failure, isStopping, makeFolder, readText } = require('./command.js');
-const { LIMITS, runEngine } = require('./engine.js');
-const { keep } = require('./keep.js');
+const { runEngine } = require('./engine.js');
+const { keep, reasonsOf } = require('./keep.js');
 const { Fault, plain } = require('./lines.js');
 const { mixesSizes } = require('./code.js');
 const { Machine } = require('./machine.js');
-const { programOf } = require('./program.js');
-const { reasonsOf } = require('./reasons.js');
+const { programOf, settingsOf } = require('./program.js');
+const { findProgram } = require('./programs.js');
 const { FORM } = require('./record.js');
-const { settingsOf } = require('./settings.js');
 const { toldBy } = require('./told.js');
 const { VERSION } = require('./version.js');
 
@@ -37,7 +36,6 @@ class Campaign {
   constructor(words, engines, where, log) {
     Object.assign(this, { words, engines, where, log });
     this.settings = { tried: words.tried, in_step: words['in-step'], seed: words.seed };
-    this.limits = Object.fromEntries(Object.keys(LIMITS).map((name) => [name, words[name]]));
     this.machine = new Machine(words.jobs);
     this.folder = makeFolder();
     this.runs = 0;
@@ -47,10 +45,9 @@ class Campaign {
   again(file, { engine, engine_id: id }) {
     const { tried, in_step: inStep, seed } = this.settings;
     const words = ['jslit-engine', '--engine', engine, '--tried', tried, '--in-step', inStep, '--seed', seed];
-    for (const name of Object.keys(LIMITS)) if (this.limits[name] !== LIMITS[name]) words.push(`--${name}`, this.limits[name]);
+    for (const name of ['grace', 'memory', 'output']) words.push(`--${name}`, this.words[name]);
     if (id !== null) words.push('--engine-id', id);
-    if (this.words.named !== null) words.push('--program', this.words.named);
-    if (this.words.report !== null) words.push('--report', this.words.report);
+    for (const name of ['program', 'report']) if (this.words[name] !== null) words.push(`--${name}`, this.words[name]);
     return [...words, file].map((word) => quoted(String(word))).join(' ');
   }
 
@@ -120,7 +117,7 @@ class Campaign {
 
   // The test in a file, and its report; the program is looked for when it is first asked.
   async reportOf(file) {
-    this.program ??= useProgram(this.words.program);
+    this.program ??= findProgram(this.words.program);
     return testAndReport({ ...this.words, program: await this.program, file });
   }
 
@@ -135,8 +132,9 @@ class Campaign {
     const program = programOf(test, settings);
     const { end, seconds } = await this.started(engine.engine, program, test.agents.length);
     const { seen, copies, inStep, failure } = toldBy(end, test.agents.length, allowed.registers.length);
-    const outside = [...seen.entries()].filter(([key]) => !allowed.places.has(key)).map(([, entry]) => entry);
-    const inside = allowed.outcomes.map((values) => ({ values, times: seen.get(Allowed.key(values))?.times ?? 0 }));
+    const inside = allowed.outcomes.map((values) => ({ values, times: seen.get(keyOf(values))?.times ?? 0 }));
+    const known = new Set(allowed.outcomes.map(keyOf));
+    const outside = [...seen.entries()].filter(([key]) => !known.has(key)).map(([, entry]) => entry);
     const result = resultOf(outside, failure, inStep, this.settings.in_step);
     const made = {
       result, test: test.name, verdict: allowed.verdict, registers: allowed.registers,
@@ -172,7 +170,7 @@ class Campaign {
       const last = path.join(folder, 'program.js');
       fs.writeFileSync(last, program);
       const begun = Date.now();
-      const options = { processors: processors.length < agents ? [] : processors, limits: this.limits };
+      const options = { processors: processors.length < agents ? [] : processors, limits: this.words };
       const end = await runEngine(engine, last, this.settings.tried, options);
       return { end, seconds: (Date.now() - begun) / 1000 };
     } catch (error) {

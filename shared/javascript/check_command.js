@@ -1,14 +1,57 @@
 'use strict';
-// The command jslit-check.
+// The command jslit-check, with results in the forms that hosted runs take: a file of JUnit's XML, and annotations, a command of a workflow
+// on a line.
 
+const fs = require('fs');
 const path = require('path');
-const { programOf } = require('./asked.js');
 const { TOP, run } = require('./command.js');
-const { Junit, annotation } = require('./hosted.js');
-const { flag, jobs, readOptions, seconds, text } = require('./options.js');
-const { builtProgram } = require('./programs.js');
+const { readOptions } = require('./options.js');
+const { builtProgram, namedProgram } = require('./programs.js');
 const { FIELDS, Runs, printedName, spoken, write } = require('./runs.js');
+const { pathOf, shown } = require('./system.js');
 const { filesIn } = require('./tests_in.js');
+
+// A text without what XML can't have, however it is written.
+const clean = (text) => String(text).replace(/[\0-\x08\x0b\x0c\x0e-\x1f\ud800-\udfff\ufffe\uffff]/gu, '?');
+const escape = (text) => clean(text).replace(/&/g, '&amp;').replace(/>/g, '&gt;').replace(/</g, '&lt;');
+
+const attribute = (text) => `"${escape(text).replace(/[\n\r\t"]/g, (sign) => `&#${sign.charCodeAt(0)};`)}"`;
+
+// A suite with a case for each file, in a file that is written anew.
+class Junit {
+  constructor(name) {
+    Object.assign(this, { to: fs.openSync(pathOf(name), 'w'), cases: [], failed: 0, seconds: 0 });
+  }
+
+  take({ file, test, fault, line, seconds = 0 }) {
+    const head = `  <testcase classname="jslit-check" name=${attribute(test || file)} file=${attribute(file)} time="${seconds.toFixed(4)}"`;
+    this.seconds += seconds;
+    if (fault === undefined) {
+      this.cases.push(`${head}/>\n`);
+      return;
+    }
+    this.failed += 1;
+    const said = escape(`${file}${line === undefined ? '' : `, line ${line}`}: ${fault}`);
+    this.cases.push(`${head}>\n    <failure message=${attribute(fault)}>${said}</failure>\n  </testcase>\n`);
+  }
+
+  close() {
+    const counts = `tests="${this.cases.length}" failures="${this.failed}" errors="0" time="${this.seconds.toFixed(4)}"`;
+    const head = `<?xml version="1.0" encoding="UTF-8"?>\n<testsuite name="jslit-check" ${counts}>\n`;
+    fs.writeFileSync(this.to, `${head}${this.cases.join('')}</testsuite>\n`);
+    fs.closeSync(this.to);
+  }
+}
+
+// A text in a command of a workflow, which per cent signs, ends of lines and these would end.
+const inCommand = (text, more = '') => [...text].map((sign) => (
+  `%\r\n${more}`.includes(sign) ? `%${sign.charCodeAt(0).toString(16).toUpperCase().padStart(2, '0')}` : sign)).join('');
+
+// The command that shows a fault at its line of the file.
+function annotation({ file, line, fault }) {
+  const place = `file=${inCommand(shown(file), ':,')}${line === undefined ? '' : `,line=${line}`}`;
+  return `::error ${place},title=jslit-check::${inCommand(fault)}`;
+}
 
 function lineOf(result) {
   const { file, fault, isRecorded, notes = [] } = result;
@@ -37,13 +80,9 @@ async function told(results, words, junit) {
 }
 
 async function main(given) {
-  const words = readOptions(given, {
-    program: text(), tsv: flag('json'), json: flag('tsv'), strict: flag(), junit: text(), annotate: flag(), notes: flag(), record: flag(),
-    jobs: jobs(), limit: seconds(10),
-  });
+  const words = readOptions(given, { apart: [['tsv', 'json'], ['tsv', 'notes']] });
   if (words === null) return 0;
-  if (words.tsv && words.notes) words.wrong("--notes doesn't go with --tsv");
-  const program = await programOf(words.program);
+  const program = await namedProgram(words.program);
   if (words.notes) await builtProgram('jslit-why');
   const isStated = words.strict || words.paths.length === 0;
   const runs = new Runs(program, words.limit, { isStated, records: words.record, notes: words.notes });

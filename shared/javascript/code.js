@@ -1,28 +1,24 @@
 'use strict';
 // A test as JavaScript: the function of an agent, and the condition.
 
-const { accessesOf, isIf, registersOf } = require('./text/tests.js');
+const { accessesOf, isIf, namesOf, registersOf } = require('./text/tests.js');
 
 // Where an element or byte stands: from `base`, the copy's first byte, or `half` and `word`, the same in elements.
 const BASES = { U8: 'base', U16: 'half', U32: 'word', DV: 'base' };
-const at = (access) => `${BASES[access.view]} + ${access.place}`;
 
-function accessCode({ kind, atomic, view, bits, place, values }) {
-  const where = at({ view, place });
-  if (atomic) return `Atomics.${kind}(${[view, where, ...values].join(', ')})`;
-  if (view === 'DV') {
-    const words = [where, ...values, ...(bits === 8 ? [] : ['true'])].join(', ');
-    return `DV.${kind === 'load' ? 'get' : 'set'}Uint${bits}(${words})`;
-  }
-  return `${view}[${where}]${kind === 'store' ? ` = ${values[0]}` : ''}`;
+// The line of an access, as a litmus text has it, or with another place.
+function lineOf({ kind, register, atomic, view, bits, place, values }, where = place) {
+  const into = register === null ? '' : `r${register} = `;
+  if (atomic) return `${into}Atomics.${kind}(${[view, where, ...values].join(', ')})`;
+  if (view !== 'DV') return `${into}${view}[${where}]${kind === 'store' ? ` = ${values[0]}` : ''}`;
+  return `${into}DV.${kind === 'load' ? 'get' : 'set'}Uint${bits}(${[where, ...values, ...(bits === 8 ? [] : ['true'])].join(', ')})`;
 }
 
 // The lines of statements, each with `indent` before it.
 function statementLines(statements, indent) {
   return statements.flatMap((statement) => {
-    const { register } = statement;
-    if (!isIf(statement)) return [`${indent}${register === null ? '' : `r${register} = `}${accessCode(statement)};`];
-    const { equal, number, body, other } = statement;
+    if (!isIf(statement)) return [`${indent}${lineOf(statement, `${BASES[statement.view]} + ${statement.place}`)};`];
+    const { register, equal, number, body, other } = statement;
     const lines = [`${indent}if (r${register} ${equal ? '===' : '!=='} ${number}) {`, ...statementLines(body, `${indent}  `)];
     if (other.length) lines.push(`${indent}} else {`, ...statementLines(other, `${indent}  `));
     return [...lines, `${indent}}`];
@@ -49,13 +45,13 @@ function agentCode(test, agent) {
 
 // The condition as an expression on `seen`, the list of an outcome's values.
 function conditionCode(test) {
-  const places = new Map(registersOf(test).map(([agent, register], place) => [`${test.agents[agent].name}.${register}`, place]));
+  const names = namesOf(test);
   const code = (condition) => {
     if (condition.all) return `(${condition.all.map(code).join(' && ')})`;
     if (condition.any) return `(${condition.any.map(code).join(' || ')})`;
     if (condition.not) return `!${code(condition.not)}`;
     const { agent, register, equal, number } = condition;
-    return `(seen[${places.get(`${agent}.${register}`)}] ${equal ? '===' : '!=='} ${number})`;
+    return `(seen[${names.indexOf(`${agent}.r${register}`)}] ${equal ? '===' : '!=='} ${number})`;
   };
   return code(test.condition);
 }
@@ -76,4 +72,4 @@ function mixesSizes(test) {
     (other.view === 'DV' || other.bits !== one.bits) && meet(bytesOf(one), bytesOf(other)))));
 }
 
-module.exports = { agentCode, alignmentOf, conditionCode, mixesSizes };
+module.exports = { agentCode, alignmentOf, conditionCode, lineOf, mixesSizes };

@@ -6,45 +6,16 @@ const fs = require('fs');
 const os = require('os');
 const path = require('path');
 const { spawn } = require('child_process');
-const { parseArgs } = require('util');
-const { Failure, Fault, messageOf, plain } = require('./lines.js');
-const { limits } = require('./limits.js');
+const { Failure, Fault, plain } = require('./lines.js');
+const limits = require('../limits.json');
 const { VARIABLE } = require('./processes.js');
-const { shown, strerror } = require('./system.js');
+const { givenWords, pathOf, shown, strerror } = require('./system.js');
 const { VERSION } = require('./version.js');
-const { givenWords, pathOf } = require('./words.js');
 
 const TOP = path.resolve(__dirname, '..', '..');
 const JSLIT = path.join(TOP, 'bin', 'jslit');
 const SIGNALS = { SIGHUP: 129, SIGINT: 130, SIGQUIT: 131, SIGTERM: 143 };
 const PATIENCE = 200;   // milliseconds between a signal to what was started and its end
-
-// The words of a command: options with a value each, flags (whose value is false here), lists of what an option is given again and again,
-// and paths. Behind `--` all are paths.
-function readWords(given, options) {
-  const kindOf = (value) => ({ type: value === false ? 'boolean' : 'string', multiple: Array.isArray(value) });
-  const known = Object.fromEntries(Object.entries(options).map(([name, value]) => [name, kindOf(value)]));
-  try {
-    const { values, positionals } = parseArgs({
-      args: given, options: { ...known, help: { type: 'boolean', short: 'h' } }, allowPositionals: true,
-    });
-    return { ...options, ...values, paths: positionals };
-  } catch (error) {
-    throw new Failure(2, wordsFault(error));
-  }
-}
-
-// What is said of words that aren't as they should be, in few words.
-function wordsFault({ code, message }) {
-  const [, option] = /'(?:-[a-z], )?(-[^' ]*)/.exec(message) ?? [];
-  if (code === 'ERR_PARSE_ARGS_UNKNOWN_OPTION') return `no option ${plain(option)}`;
-  return plain(message.split('\n')[0]);
-}
-
-function oneFile(paths) {
-  if (paths.length !== 1) throw new Failure(2, `one file is needed, and ${paths.length || 'none'} given`);
-  return paths[0];
-}
 
 // Children have process groups of their own, so that all that they started can be stopped with them, and a mark in their
 // environment, by which those are found that left their group.
@@ -53,12 +24,6 @@ const MARK = crypto.randomUUID();
 let stopping = false;
 let folder;
 let keeper;
-let areApart = true;
-
-// From now on children are in this process' own group: whoever started it ends that.
-function stayTogether() {
-  areApart = false;
-}
 
 // A folder for this run, which goes when it ends.
 function makeFolder() {
@@ -83,7 +48,7 @@ function keep() {
 
 function stop(child, signal) {
   try {
-    process.kill(areApart ? -child.pid : child.pid, signal);
+    process.kill(-child.pid, signal);
   } catch {
     // It has ended.
   }
@@ -92,8 +57,8 @@ function stop(child, signal) {
 // Starts a child; `ended` is a promise of its status and signal, or of why it could not be started. It comes once the
 // child's outputs are closed too, by all that have them.
 function start(command, words, stdio, mark = MARK) {
-  if (keeper === undefined && areApart) keep();
-  const child = spawn(command, words, { stdio, detached: areApart, env: { ...process.env, [VARIABLE]: mark } });
+  if (keeper === undefined) keep();
+  const child = spawn(command, words, { stdio, detached: true, env: { ...process.env, [VARIABLE]: mark } });
   if (child.pid !== undefined) children.add(child);
   const ended = new Promise((done) => {
     child.on('error', (error) => done({ error }));
@@ -146,14 +111,13 @@ function readText(file) {
   try {
     return bytesIn(file);
   } catch (error) {
-    throw new Failure(4, `${plain(file)}: ${plain(messageOf(error))}`);
+    throw new Failure(4, `${plain(file)}: ${strerror(error)}`);
   }
 }
 
 // What this command is called, its help, and its version.
 let name = null;
-const nameOf = () => name;
-const usage = () => fs.readFileSync(path.join(TOP, 'docs', 'help', `${name}.txt`));
+const usage = () => fs.readFileSync(path.join(TOP, 'docs', 'help', `${name}.txt`), 'utf8');
 const help = () => tellAll(usage());
 const tellVersion = async () => tellAll(`${name} ${VERSION}\n`);
 
@@ -172,7 +136,7 @@ function run(command, main, { starts = true, isQuiet = false, isBrief = isQuiet 
   if (isQuiet) process.stderr.on('error', () => {});
   if (starts) endAtSignals(isQuiet);
   process.stdout.on('error', (error) => {
-    if (error.code !== 'EPIPE' && !(isQuiet && isAnswered)) process.stderr.write(`${name}: ${plain(messageOf(error))}\n`);
+    if (error.code !== 'EPIPE' && !(isQuiet && isAnswered)) process.stderr.write(`${name}: ${strerror(error)}\n`);
     process.exit(4);
   });
   const done = () => keeper?.stdin.end('done');
@@ -185,8 +149,8 @@ function run(command, main, { starts = true, isQuiet = false, isBrief = isQuiet 
     const isOfSystem = isQuiet && error.syscall !== undefined;
     const where = error.path === undefined ? '' : `${shown(error.path)}: `;
     const isTold = error instanceof Failure || error instanceof Fault;
-    process.stderr.write(`${name}: ${isOfSystem ? `${where}${strerror(error)}` : isTold ? error.message : error.stack}\n`);
-    if (error.status === 2 && !isBrief) process.stderr.write(usage());
+    const more = error.status !== 2 ? '' : isBrief ? `; ${name} --help says what they may be` : `\n${usage().trimEnd()}`;
+    process.stderr.write(`${name}: ${isOfSystem ? `${where}${strerror(error)}` : isTold ? error.message : error.stack}${more}\n`);
     process.exitCode = error.status ?? (isOfSystem ? 4 : error instanceof Fault ? 1 : 70);
   });
 }
@@ -197,6 +161,5 @@ const isStopping = () => stopping;
 const grouped = (number) => String(number).replace(/\B(?=(?:[0-9]{3})+$)/g, ',');
 
 module.exports = {
-  Failure, JSLIT, MARK, TOP, bytesIn, endAtSignals, grouped, help, isStopping, makeFolder, nameOf, oneFile, readText, readWords, run,
-  start, stayTogether, stop, tellVersion,
+  Failure, JSLIT, MARK, TOP, bytesIn, endAtSignals, grouped, help, isStopping, makeFolder, readText, run, start, stop, tellVersion, usage,
 };

@@ -1,34 +1,35 @@
 'use strict';
 // The command jslit-compare.
 
-const path = require('path');
-const { Program, givenText, programOf } = require('./asked.js');
-const { Failure, TOP, run, start } = require('./command.js');
-const { readOptions, seconds, text } = require('./options.js');
+const { Failure, readText, run } = require('./command.js');
+const { plain } = require('./lines.js');
+const { readOptions } = require('./options.js');
+const { Program, byJslitJs, namedProgram } = require('./programs.js');
+const { linesOf } = require('./report.js');
 const { printedName, write } = require('./runs.js');
-const { short, shown, statusOf } = require('./system.js');
 const { filesIn, isFolder } = require('./tests_in.js');
 
 const [BEFORE, AFTER] = ['.before.lit', '.after.lit'];
 
 // The registers of a text, by agent, and the lines of its outcomes, each by the values of the sorted registers.
 async function outcomesOf(program, limit, name, data) {
-  const { outcomes } = await new Program(program, limit).report(name, data, [], true);
-  const key = (values) => values.map(([register, value]) => `${register}=${BigInt(value)}`).sort().join(' ');
-  return {
-    name, registers: (outcomes[0]?.values ?? []).map(([register]) => register),
-    lines: new Map(outcomes.map(({ values, lines }) => [key(values), lines])),
-  };
+  const as = ({ values, ...example }) => [values.map((pair) => pair.join('=')).sort().join(' '), printedOf(values, example)];
+  const { registers, outcomes } = await new Program(program, limit).report(name, data, [], { most: Infinity, as });
+  return { name, registers, lines: new Map(outcomes) };
 }
 
-const textsIn = (names) => names.map((name) => [name, givenText(name)]);
+// The lines of an outcome, as the program prints them.
+const printedOf = (values, { from, order }) => linesOf({ outcome: { values: values.map(([, value]) => value),
+  from: from.map(([event, sources]) => ({ event, sources })), order } }, values.map(([register]) => register));
+
+const textsIn = (names) => names.map((name) => [name, readText(name)]);
 
 // What two texts are, each beside its file's name: `found`, and the lines that say why.
 async function compared(program, limit, texts) {
   const [before, after] = [await outcomesOf(program, limit, ...texts[0]), await outcomesOf(program, limit, ...texts[1])];
   const only = [[before, after], [after, before]]
     .map(([one, other]) => [one.name, one.registers.filter((each) => !other.registers.includes(each))]).filter(([, registers]) => registers.length)
-    .map(([name, registers]) => shown(`${name} alone has the register${registers.length > 1 ? 's' : ''} ${registers.join(', ')}`));
+    .map(([name, registers]) => `${plain(name)} alone has the register${registers.length > 1 ? 's' : ''} ${registers.join(', ')}`);
   if (only.length) return { found: 'differ', lines: [`the registers differ: ${only.join('; ')}`] };
   const added = [...after.lines].filter(([values]) => !before.lines.has(values)).map(([, lines]) => lines);
   const found = added.length ? 'not allowed' : 'allowed';
@@ -44,14 +45,14 @@ function pairsIn(folder) {
     const name = end && file.slice(0, -end.length);
     if (end) pairs.set(name, { ...pairs.get(name), [end]: file });
   }
-  if (pairs.size === 0) throw new Failure(1, `${shown(folder)} has no pair NAME${BEFORE}, NAME${AFTER}`);
+  if (pairs.size === 0) throw new Failure(1, `${plain(folder)} has no pair NAME${BEFORE}, NAME${AFTER}`);
   return [...pairs].sort(([one], [other]) => (one < other ? -1 : 1));
 }
 
 // What a pair of a folder is, the lines that say why, and the status.
 async function answer(program, limit, files) {
   try {
-    if (Object.keys(files).length < 2) throw new Failure(1, `${shown(Object.values(files)[0])} stands alone`);
+    if (Object.keys(files).length < 2) throw new Failure(1, `${plain(Object.values(files)[0])} stands alone`);
     const told = await compared(program, limit, textsIn([files[BEFORE], files[AFTER]]));
     return { ...told, status: told.found === 'allowed' ? 0 : 1 };
   } catch (error) {
@@ -74,22 +75,16 @@ async function printFolder(program, limit, folder) {
   return worst;
 }
 
-// What jslit-js says of two files of JavaScript.
-async function byJavascript({ program, limit, paths }) {
-  const words = ['--limit', short(limit), ...(program ? ['--program', program] : []), '--before', ...paths];
-  const { status, signal } = await start(path.join(TOP, 'bin', 'jslit-js'), words, 'inherit').ended;
-  return signal ? 128 - statusOf({ signal }) : status;
-}
-
 async function main(given) {
-  const words = readOptions(given, { program: text(), limit: seconds(60) }, ['paths', 1, Infinity]);
+  const words = readOptions(given, { least: 1 });
   if (words === null) return 0;
   const { paths, limit } = words;
-  if (paths.length > 2 || (paths.length === 1 && !isFolder(paths[0]))) words.wrong('give two files, or one folder');
-  if (paths.length === 2 && paths.every((each) => each.endsWith('.js'))) return byJavascript(words);
-  if (paths.length === 1) return printFolder(await programOf(words.program), limit, paths[0]);
+  if (paths.length > 2 || (paths.length === 1 && !isFolder(paths[0]))) throw new Failure(2, 'give two files, or one folder');
+  const isOfJavascript = paths.length === 2 && paths.every((each) => each.endsWith('.js'));
+  if (isOfJavascript) return byJslitJs(words.program, ['--limit', String(limit), '--before', ...paths]);
+  if (paths.length === 1) return printFolder(await namedProgram(words.program), limit, paths[0]);
   const texts = textsIn(paths);
-  const { found, lines } = await compared(await programOf(words.program), limit, texts);
+  const { found, lines } = await compared(await namedProgram(words.program), limit, texts);
   await write(`${lines.join('\n')}\n`);
   return found === 'allowed' ? 0 : 1;
 }

@@ -2,18 +2,19 @@
 // The command jslit-diy.
 
 const fs = require('fs');
-const { Late, Program, programOf } = require('./asked.js');
+const path = require('path');
 const { Failure, run } = require('./command.js');
 const { cycleOf } = require('./cycles/cycle.js');
 const { wordOf } = require('./cycles/edges.js');
 const { ONE_PLACE, cycleName, family, hasOnePlace, normal } = require('./cycles/families.js');
 const { EVERY, cycles, edgesOf, kindsOf } = require('./cycles/vocabulary.js');
 const { Writer } = require('./cycles/writing.js');
-const { folder, jobs, number, readOptions, seconds, text } = require('./options.js');
+const { plain } = require('./lines.js');
+const { readOptions } = require('./options.js');
 const { inOrder } = require('./pool.js');
+const { Program, namedProgram } = require('./programs.js');
 const { spoken, write } = require('./runs.js');
-const { short, shown } = require('./system.js');
-const { pathOf } = require('./words.js');
+const { pathOf } = require('./system.js');
 
 const HEADS = ['tests', 'always', 'sometimes', 'never', 'data race'];
 
@@ -32,22 +33,23 @@ function askedFor({ upto, accesses, paths }) {
 async function made(program, limit, cycle) {
   const [writer, name] = [new Writer(cycle), cycleName(cycle)];
   try {
-    const { last } = await new Program(program, limit).report(name, writer.text());
-    const answer = { verdict: last.verdict, outcomes: last.outcomes, data_race: last['data race'] };
+    const { other } = await new Program(program, limit).report(name, writer.text());
+    const answer = { verdict: other.verdict, outcomes: other.count, data_race: other.race };
     return { cycle, name, text: `// ${writer.cycle()}\n// expect: ${spoken(answer)}\n${writer.text()}`, answer };
   } catch (error) {
-    if (error instanceof Late) return { cycle, name, answer: null };
+    if (error.status === 5) return { cycle, name, answer: null };
     throw error;
   }
 }
 
 // Writes the file of a test. One that is there and has another text is somebody's own.
 function writeFile(folder, { name, text: whole }) {
-  const file = pathOf(`${folder}${folder === '/' ? '' : '/'}${name}.lit`.replace(/^\.\//, ''));
+  const file = pathOf(path.join(folder, `${name}.lit`));
   fs.mkdirSync(pathOf(folder), { recursive: true });
   const isThere = fs.lstatSync(file, { throwIfNoEntry: false }) !== undefined;
   const isFile = isThere && fs.statSync(file, { throwIfNoEntry: false })?.isFile();
-  if (isThere && !(isFile && fs.readFileSync(file, 'utf8').replace(/\r\n?/g, '\n') === whole)) throw new Failure(1, `${shown(file)} is there, with another text`);
+  const isOwn = isThere && !(isFile && fs.readFileSync(file, 'utf8').replace(/\r\n?/g, '\n') === whole);
+  if (isOwn) throw new Failure(1, `${plain(file)} is there, with another text`);
   fs.writeFileSync(file, whole);
 }
 
@@ -70,12 +72,10 @@ function countLines(tests) {
 }
 
 function parsed(given) {
-  const words = readOptions(given, {
-    program: text(), upto: number(/^[3-8]$/, 3, 8, null, '--upto '), accesses: text(), output: folder(), limit: seconds(10), jobs: jobs(),
-  });
+  const words = readOptions(given);
   if (words === null) return null;
-  const isWrong = !words.upto && (words.accesses || words.paths.length === 0);
-  if (isWrong) words.wrong(words.accesses ? '--accesses stands beside --upto' : 'give a cycle, such as PodWR Fre PodWR Fre, or --upto N');
+  if (!words.upto && words.accesses) throw new Failure(2, '--accesses stands beside --upto');
+  if (!words.upto && words.paths.length === 0) throw new Failure(2, 'give a cycle, such as PodWR Fre PodWR Fre, or --upto N');
   return words;
 }
 
@@ -86,16 +86,16 @@ async function main(given) {
   try {
     wanted = askedFor(words);
   } catch (error) {
-    throw error instanceof Failure ? new Failure(2, shown(error.message)) : error;
+    throw error instanceof Failure ? new Failure(2, plain(error.message)) : error;
   }
-  const program = await programOf(words.program);
+  const program = await namedProgram(words.program);
   const { output } = words;
   const isAlone = wanted.length === 1 && output === null;
   const tests = [];
   for await (const told of inOrder(wanted, words.jobs, (cycle) => made(program, words.limit, cycle))) {
     if (told.answer) tests.push(told);
     if (output !== null && told.answer) writeFile(output, told);
-    const said = told.answer ? spoken(told.answer) : `no answer within ${short(words.limit)} seconds`;
+    const said = told.answer ? spoken(told.answer) : `no answer within ${words.limit} seconds`;
     await write(isAlone && told.answer ? told.text : `${told.name}: ${told.cycle.map(wordOf).join(' ')}: ${said}\n`);
   }
   if (!isAlone) await write(countLines(tests).join(''));

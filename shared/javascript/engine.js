@@ -4,18 +4,14 @@
 const { Failure, MARK, start, stop } = require('./command.js');
 const { startedBy } = require('./identity.js');
 const { plain } = require('./lines.js');
-const { busySince, ticksOf } = require('./machine.js');
+const { Pinning, busySince, ticksOf } = require('./machine.js');
 const { Output, WORDS } = require('./output.js');
-const { Pinning } = require('./pinning.js');
 const { Processes } = require('./processes.js');
 
 const LOOKS = 200, FIRST_LOOK = 50;  // milliseconds between two looks at the memory and the threads, and before the first
 const CLOSING = 2000;                // milliseconds for its outputs to be closed, once all is ended
 const TICKS = 100;                   // of a processor in a second, as /proc counts them
 const MEGABYTE = 2 ** 20;
-
-// What an engine may have where the words don't say: seconds more than it is asked to run, and megabytes.
-const LIMITS = { grace: 30, memory: 2048, output: 64 };
 
 // Takes what the engine prints on both outputs, and calls `endAt` where that is too much.
 function collect(child, limits, endAt) {
@@ -69,8 +65,9 @@ process.on('exit', () => running.forEach((processes) => processes.end()));
 let runs = 0;
 
 // Starts the engine with a last word, as the file of a program, for so many seconds. `processors` are those that its agents may
-// have, one each. `limit` is the limit at which it was ended, or null.
-async function runEngine(engine, last, seconds, { processors = [], limits = LIMITS } = {}) {
+// have, one each; `limits` what it may have: seconds more than it is asked to run, and megabytes of memory and output. `limit` is the
+// limit at which it was ended, or null.
+async function runEngine(engine, last, seconds, { processors = [], limits }) {
   const [command, ...words] = startedBy(engine);
   runs += 1;
   const mark = `${MARK}:${runs};`;
@@ -103,4 +100,4 @@ async function runEngine(engine, last, seconds, { processors = [], limits = LIMI
   return { ...end, limit, words: stdout.words, text: stdout.others, stdout, stderr, load: watch.load };
 }
 
-module.exports = { LIMITS, runEngine };
+module.exports = { runEngine };

@@ -1,11 +1,11 @@
 'use strict';
 // What jslit-engine prints of runs.
 
-const { Allowed } = require('./allowed.js');
-const { conditionCode } = require('./code.js');
+const { keyOf } = require('./allowed.js');
 const { grouped } = require('./command.js');
 const { plain } = require('./lines.js');
 const { RESULTS } = require('./record.js');
+const { meetsOf } = require('./text/tests.js');
 
 const SHOWN = 8;   // lines of an engine's standard error
 
@@ -30,10 +30,10 @@ const loaded = ({ processors, busy, others }) => `${busy} of ${processors} proce
 
 // The whole of one run: the outcomes of the report in its order, and then those that it doesn't have.
 function histogram({ told: { test, allowed }, run: done }, seenAlone) {
-  const times = new Map(done.seen.map((entry) => [Allowed.key(entry.values), entry.times]));
-  const entries = allowed.outcomes.map((values) => ({ values, times: times.get(Allowed.key(values)) ?? 0 }));
+  const times = new Map(done.seen.map((entry) => [keyOf(entry.values), entry.times]));
+  const entries = allowed.outcomes.map((values) => ({ values, times: times.get(keyOf(values)) ?? 0 }));
   const kept = entries.filter((entry) => !seenAlone || entry.times > 0);
-  const meets = new Function('seen', `return ${conditionCode(test)};`);
+  const meets = meetsOf(test);
   return [`test ${done.test} on ${plain(done.engine)}: ${grouped(done.copies)} copies in ${done.seconds} seconds, ${inStep(done)}\n`,
     `${loaded(done.load)}\n`,
     ...kept.map((entry) => outcomeLine(allowed.registers, entry, meets, '')),

@@ -3,17 +3,41 @@
 
 const fs = require('fs');
 const path = require('path');
+const { parseArgs } = require('util');
 const { help, readText, run } = require('./command.js');
-const { messageOf, plain } = require('./lines.js');
+const { plain } = require('./lines.js');
 const { notesOfReport, reported } = require('./noting.js');
-const { TOP, builtProgram, namedProgram, runOf, tellText } = require('./programs.js');
+const { TOP, builtProgram, namedProgram, runOf, tellText, testIn } = require('./programs.js');
+const { pathOf, strerror } = require('./system.js');
 const { MOST, more } = require('./text/faults.js');
 const { linesOf } = require('./text/forms.js');
 const { advice } = require('./text/refusals.js');
-const { adviceOnWords } = require('./text/command_words.js');
-const { pathOf } = require('./words.js');
 
-const VALUED = ['--workers', '--cut', '--schedule', '--most', '--choice', '--from', '--condition'];
+const VALUED = ['workers', 'cut', 'schedule', 'most', 'choice', 'from', 'condition'];
+// What is said of words that jslit refuses, where another command is meant: which one.
+const INSTEAD = {
+  '--race': ['jslit-why --race', 'shows the first data race'], '--races': ['jslit-why --race', 'shows the first data race'],
+  '--why': ['jslit-why', 'says why no execution meets the condition'], '--unmet': ['jslit-why --unmet', 'says why none fails it'],
+  '--json': ['jslit %s | jslit-json', 'writes a report as JSON'], '--draw': ['jslit-draw', 'draws an execution'],
+  '--dot': ['jslit-draw', 'draws an execution'], '--explain': ['jslit-explain', 'says what to write for a line that is refused'],
+  '--notes': ['jslit-check --notes', 'says where a text may not mean what one thinks'],
+  '--engine': ['jslit-engine', 'runs a test on an engine'],
+  '--threads': ['jslit --workers N', 'searches by N workers'], '-j': ['jslit --workers N', 'searches by N workers'],
+  '-q': ['jslit --quick', 'answers the verdict, with an example of each class'],
+};
+
+// A line for each word that another command or option takes; for several files, and for a report in place of a text, one line.
+function adviceOnWords(words) {
+  const files = words.filter((word) => !word.startsWith('-'));
+  const [file = 'FILE'] = files;
+  const told = words.filter((word) => Object.hasOwn(INSTEAD, word.split('=')[0])).map((word) => {
+    const [command, does] = INSTEAD[word.split('=')[0]];
+    return `\`${command.includes('%s') ? command.replace('%s', file) : `${command} ${file}`}\` ${does}`;
+  });
+  if (files.length > 1) told.push(`\`jslit-check ${files.join(' ')}\` runs several files, and folders`);
+  return [...new Set(told)];
+}
+
 const LIMIT = 10000;         // milliseconds until it refuses or begins a report
 const LIMIT_OF_NOTES = 2000; // for a report whose examples notes are about
 const WIDTH = 100;
@@ -29,18 +53,11 @@ const utf8 = (text) => Buffer.from(text, 'latin1').toString('utf8');
 
 // The places of the files' names among the program's words, and the schedule's text, or null, as the program reads them.
 function parsed(words) {
-  const places = [];
-  let schedule = null;
-  for (let place = 0; place < words.length; place += 1) {
-    const word = words[place];
-    if (word === '--') return { places: [...places, ...words.keys()].filter((at) => at > place || places.includes(at)), schedule };
-    const [flag, ...rest] = word.split('=');
-    if (VALUED.includes(flag)) {
-      const value = word.includes('=') ? rest.join('=') : words[place += 1] ?? '';
-      if (flag === '--schedule') schedule = value;
-    } else if (word === '-' || !word.startsWith('-')) places.push(place);
-  }
-  return { places, schedule };
+  const options = Object.fromEntries(VALUED.map((name) => [name, { type: 'string' }]));
+  const { tokens } = parseArgs({ args: words, options, strict: false, allowPositionals: true, tokens: true });
+  const places = tokens.filter(({ kind }) => kind === 'positional').map(({ index }) => index);
+  const schedules = tokens.filter(({ name }) => name === 'schedule').map(({ value }) => value ?? '');
+  return { places, schedule: schedules.at(-1) ?? null };
 }
 
 // The name by which a standard input that is a file can be read anew.
@@ -106,7 +123,7 @@ function failed(name) {
     const stored = path.join(TOP, 'litmus', path.basename(name));
     const near = [`${name}.lit`, stored, `${stored}.lit`].find((other) => fs.statSync(other, { throwIfNoEntry: false })?.isFile());
     const meant = error.code === 'EISDIR' ? '; jslit-check runs all tests of a folder' : near ? `; did you mean ${plain(path.relative('.', near))}?` : '';
-    say(`${plain(name)}: ${messageOf(error)}${meant}`);
+    say(`${plain(name)}: ${strerror(error)}${meant}`);
   }
 }
 
@@ -151,7 +168,7 @@ async function explained(program, words, name, schedule, isTold) {
 async function note(program, words, name, schedule) {
   if (words.some((word) => ['-h', '--help', '-V', '--version'].includes(word)) || name === null || isReadOnce(name)) return 0;
   const data = readText(name);
-  const { test } = await tellText(await builtProgram('jslit-text'), name, data);
+  const test = await testIn(name, data);
   const quick = words.filter((word) => word === '--quick');
   const outcomes = schedule === null ? await reported(program, quick, data, LIMIT_OF_NOTES) : [];
   for (const each of await notesOfReport(data, test, outcomes)) say(`${plain(name)}:${each.line}: note: ${each.said}`);
@@ -161,7 +178,7 @@ async function note(program, words, name, schedule) {
 async function main(given) {
   const isNamed = given[0] === '--program' && given.length > 1;
   let words = isNamed ? given.slice(2) : given;
-  const program = async () => (isNamed ? namedProgram(given[1]) : builtProgram('jslit'));
+  const program = () => namedProgram(isNamed ? given[1] : null);
   if (words.length === 1 && (words[0] === '--help' || words[0] === '-h')) return help();
   const [mode] = words;
   if (['--input-failed', '--notes', '--why', '--words-refused'].includes(mode)) words = words.slice(1);

@@ -44,18 +44,10 @@ function fileOf(command) {
   }) ?? null;
 }
 
-// The SHA-256 of a file, read piece by piece, or null where it can't be read.
+// The SHA-256 of a file, or null where it can't be read.
 function digestOf(file) {
-  const hash = crypto.createHash('sha256');
-  const piece = Buffer.alloc(1 << 20);
   try {
-    const from = fs.openSync(file, 'r');
-    for (let more = 1; more > 0;) {
-      more = fs.readSync(from, piece);
-      hash.update(piece.subarray(0, more));
-    }
-    fs.closeSync(from);
-    return hash.digest('hex');
+    return crypto.createHash('sha256').update(fs.readFileSync(file)).digest('hex');
   } catch {
     return null;
   }

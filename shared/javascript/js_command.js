@@ -4,15 +4,16 @@
 const fs = require('fs');
 const path = require('path');
 const readline = require('readline');
-const { Failure, TOP, help, readWords, run, start, stop } = require('./command.js');
+const { Failure, TOP, run, start, stop } = require('./command.js');
 const { plain } = require('./lines.js');
-const { Asked, JSLIT, WHY } = require('./js/asking.js');
-const { compared } = require('./js/compare.js');
+const { Asked } = require('./js/asking.js');
 const { drawn } = require('./js/draw.js');
 const { compared: seenBeside, tried } = require('./js/engine.js');
 const { jsonOf } = require('./js/json.js');
-const { briefOf, linesOf } = require('./js/print.js');
+const { briefOf, compared, linesOf } = require('./js/print.js');
 const { Sources } = require('./js/sources.js');
+const { readOptions } = require('./options.js');
+const { strerror } = require('./system.js');
 
 const CHILD = path.join(__dirname, 'js', 'child.js');
 const READ = [path.join(TOP, 'shared', 'javascript', '*'), path.join(TOP, 'shared', 'limits.json'), '/usr/share/nodejs/*', '/usr/lib/nodejs/*'];
@@ -31,20 +32,12 @@ function read(file) {
   try {
     return fs.readFileSync(file, 'utf8');
   } catch (error) {
-    throw new Failure(4, plain(error.message));
+    throw new Failure(4, `${plain(file)}: ${strerror(error)}`);
   }
-}
-
-function secondsOf(words, name) {
-  const seconds = Number(words[name]);
-  if (!/^[0-9]+(\.[0-9]+)?$/.test(words[name]) || seconds <= 0 || seconds > 86400) throw new Failure(2,
-    `--${name} is a number of seconds up to 86400`);
-  return seconds;
 }
 
 // The files by their names without folders, since workers are named so.
 function sourcesOf(paths, use) {
-  if (paths.length === 0) throw new Failure(2, 'a file is needed, and none given');
   const files = new Map();
   for (const file of paths) {
     const name = path.basename(file);
@@ -109,13 +102,11 @@ function signOfLife(asked) {
 }
 
 async function main(given) {
-  const words = readWords(given, { use: null, limit: '120', time: '600', program: JSLIT, 'why-program': WHY, text: false, examples: false,
-    why: false, outcome: null, before: null, json: false, brief: false, draw: false, run: null });
-  if (words.help) return help();
-  const [limit, time] = [secondsOf(words, 'limit'), secondsOf(words, 'time')];
-  const asked = new Asked({ program: path.resolve(words.program), why: path.resolve(words['why-program']), limit });
+  const words = readOptions(given, { least: 1 });
+  if (words === null) return 0;
+  const asked = new Asked({ program: words.program, why: words['why-program'], limit: words.limit });
   const ended = signOfLife(asked);
-  const answered = (sources, wanted) => answerOn(sources, asked, time, wanted);
+  const answered = (sources, wanted) => answerOn(sources, asked, words.time, wanted);
   return (words.before === null ? whole(words, answered) : change(words, answered)).finally(ended);
 }
 
@@ -145,11 +136,10 @@ async function whole(words, answered) {
 
 // The source on real workers, beside the answer.
 async function onWorkers({ run: number, time }, answer, sources) {
-  if (!/^[1-9][0-9]{0,6}$/.test(number)) throw new Failure(2, '--run is how often, up to 9999999');
   const rights = rightsOf(process.versions.node);
   const source = [...sources.files.values()].join('\n').replace(/^export /gm, '');
-  const counts = await tried(source, Number(number), Number(time), rights === null ? [] : [...rights, '--allow-worker']);
-  const { isAllowed, lines } = seenBeside(answer, counts, Number(number));
+  const counts = await tried(source, number, time, rights === null ? [] : [...rights, '--allow-worker']);
+  const { isAllowed, lines } = seenBeside(answer, counts, number);
   print(lines);
   return isAllowed ? 0 : 1;
 }

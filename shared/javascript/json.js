@@ -123,29 +123,20 @@ class JsonReader {
   }
 }
 
-// Gives each part of the report whose JSON a stream holds, and waits for `after` after each piece of it.
-async function readJson(stream, give, after) {
-  const reader = new JsonReader(give);
+// Gives each part of the report whose JSON a stream holds, or of `several`, each on a line of its own; `begin` is called for each, and
+// returns what its parts are given to. Waits for `after` after each piece.
+async function readJson(stream, begin, { after, several }) {
+  let reader = several ? null : new JsonReader(begin());
   for await (const chunk of stream) {
-    reader.feed(chunk.toString('latin1'));
-    await after();
-  }
-  reader.end();
-}
-
-// The same of a JSON text on each line; `begin` is called for each, and returns what its parts are given to.
-async function readJsonLines(stream, begin, after) {
-  let reader = null;
-  for await (const chunk of stream) {
-    const [first, ...others] = chunk.toString('latin1').split('\n');
-    for (const [place, text] of [first, ...others].entries()) {
+    const text = chunk.toString('latin1');
+    for (const [place, piece] of (several ? text.split('\n') : [text]).entries()) {
       if (place > 0 && reader) {
         reader.end();
         reader = null;
       }
-      if (text !== '') {
+      if (piece !== '') {
         reader ??= new JsonReader(begin());
-        reader.feed(text);
+        reader.feed(piece);
         await after();
       }
     }
@@ -153,4 +144,4 @@ async function readJsonLines(stream, begin, after) {
   if (reader) reader.end();
 }
 
-module.exports = { readJson, readJsonLines };
+module.exports = { readJson };

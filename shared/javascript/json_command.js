@@ -2,23 +2,17 @@
 // The command jslit-json; docs/ENGINES.md describes it.
 
 const fs = require('fs');
-const { Failure, help, readWords, run } = require('./command.js');
+const { Failure, run } = require('./command.js');
 const { Fault, Writer, plain } = require('./lines.js');
-const { ReportReader, jsonWriter, linesOf, readReport, readReports } = require('./report.js');
-const { readJson, readJsonLines } = require('./json.js');
-const { pathOf } = require('./words.js');
+const { ReportReader, jsonWriter, linesOf, readReports } = require('./report.js');
+const { readJson } = require('./json.js');
+const { readOptions } = require('./options.js');
+const { pathOf } = require('./system.js');
 
-async function forward(input, writer) {
-  const text = jsonWriter();
-  await readReport(input, (part) => writer.add(text(part)), () => writer.drain());
-}
-
-async function forwardLines(input, writer, file) {
-  const begin = () => {
-    const text = jsonWriter(true, file);
-    return (part) => writer.add(text(part));
-  };
-  await readReports(input, begin, () => writer.drain());
+// Takes the parts of a report to its JSON, which names the file where it is one of several.
+function forwardWriter(writer, several, file) {
+  const text = several ? jsonWriter(true, file) : jsonWriter();
+  return (part) => writer.add(text(part));
 }
 
 // Takes the parts of a report to its lines. Each goes through the reader of reports too, so that nothing but a report is written.
@@ -34,14 +28,6 @@ function backWriter(writer) {
   };
 }
 
-async function back(input, writer) {
-  await readJson(input, backWriter(writer), () => writer.drain());
-}
-
-async function backLines(input, writer) {
-  await readJsonLines(input, () => backWriter(writer), () => writer.drain());
-}
-
 // What is told of an input that fails.
 function failureOf(error, file, isOne) {
   if (error.code !== undefined) return new Failure(4, plain(error.message));
@@ -51,14 +37,16 @@ function failureOf(error, file, isOne) {
 }
 
 async function main(given) {
-  const words = readWords(given, { back: false, lines: false });
-  if (words.help) return help();
+  const words = readOptions(given);
+  if (words === null) return 0;
   const files = words.paths.length ? words.paths : [undefined];
-  const lines = words.lines || files.length > 1;
-  const act = lines ? (words.back ? backLines : forwardLines) : (words.back ? back : forward);
+  const several = words.lines || files.length > 1;
   const writer = new Writer(process.stdout);
+  const read = words.back ? readJson : readReports;
   for (const file of files) {
-    await act(file === undefined ? process.stdin : fs.createReadStream(pathOf(file)), writer, file).catch((error) => {
+    const input = file === undefined ? process.stdin : fs.createReadStream(pathOf(file));
+    const begin = () => (words.back ? backWriter(writer) : forwardWriter(writer, several, file));
+    await read(input, begin, { after: () => writer.drain(), several }).catch((error) => {
       throw failureOf(error, file, files.length === 1);
     });
   }

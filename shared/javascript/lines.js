@@ -13,16 +13,9 @@ class Failure extends Error {
   }
 }
 
-// A text as a terminal may be given it, on one line: control characters stand as numbers, and bytes that are no UTF-8 (words.js).
+// A text as a terminal may be given it, on one line: control characters stand as numbers, and bytes that are no UTF-8 (system.js).
 const plain = (text) => String(text).replace(/[\x00-\x1f\x7f-\x9f\udc80-\udcff]/g, (sign) => (
   `\\x${(sign.charCodeAt(0) & 255).toString(16).padStart(2, '0')}`));
-
-// What the system says of a call that failed, as Node's errors have it between a code and a call.
-function messageOf({ code, message }) {
-  const [, said] = /^[A-Z0-9]+: (.*?)(?:, [a-z]+(?: '.*)?)?$/s.exec(message) ?? [];
-  if (code === 'EISDIR') return 'Is a directory';
-  return code === undefined || said === undefined ? message : said[0].toUpperCase() + said.slice(1);
-}
 
 // Gives each line of a stream to `take`, without the byte 10 that ends it, and waits where `take` gives a promise.
 async function eachLine(stream, take) {
@@ -69,4 +62,4 @@ class Writer {
   }
 }
 
-module.exports = { Failure, Fault, Writer, eachLine, messageOf, plain };
+module.exports = { Failure, Fault, Writer, eachLine, plain };

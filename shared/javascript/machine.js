@@ -2,20 +2,15 @@
 // The machine that engines run on: which processors this process may use, how busy they are, and who has which. Busy is what /proc
 // says, so that it is known on Linux alone; elsewhere all processors count as free.
 
-const fs = require('fs');
 const os = require('os');
+const { execFile } = require('child_process');
+const { namesIn, processOf, readOf } = require('./processes.js');
 
 const SPAN = 100;             // milliseconds that a sample has to span at least
 
 // Ticks that each processor was busy and was there, since the machine began.
 function ticksOf() {
-  let text = '';
-  try {
-    text = fs.readFileSync('/proc/stat', 'latin1');
-  } catch {
-    // There is no /proc.
-  }
-  return new Map([...text.matchAll(/^cpu([0-9]+) (.*)$/gm)].map(([, number, rest]) => {
+  return new Map([...(readOf('stat') ?? '').matchAll(/^cpu([0-9]+) (.*)$/gm)].map(([, number, rest]) => {
     const [user, nice, system, idle, wait, irq, softirq, steal] = rest.trim().split(' ').map(Number);
     const busy = user + nice + system + irq + softirq + steal;
     return [Number(number), { busy, all: busy + idle + wait }];
@@ -24,12 +19,7 @@ function ticksOf() {
 
 // The processors that this process may use.
 function allowed() {
-  let list;
-  try {
-    list = /^Cpus_allowed_list:\s*(.*)$/m.exec(fs.readFileSync('/proc/self/status', 'latin1'))?.[1];
-  } catch {
-    // There is no /proc.
-  }
+  const list = /^Cpus_allowed_list:\s*(.*)$/m.exec(readOf('self/status') ?? '')?.[1];
   if (list === undefined) return os.cpus().map((_, number) => number);
   return list.split(',').flatMap((part) => {
     const [first, last] = part.split('-').map(Number);
@@ -102,4 +92,46 @@ function busySince(before) {
   return [...busyBetween(before, ticksOf()).values()].reduce((sum, part) => sum + part, 0);
 }
 
-module.exports = { Machine, busySince, ticksOf };
+const threadsOf = (pid) => namesIn(`/proc/${pid}/task`).map((thread) => (
+  { thread, ticks: processOf(pid, `${pid}/task/${thread}`)?.ticks ?? 0 }));
+
+// Gives each agent of an engine a processor of its own. Engines don't say which of their threads runs which agent, but agents are
+// the busiest; a thread that sleeps and is woken again and again is else put onto the processor of the one that wakes it, where the
+// two never run at a time. By `taskset`, so on Linux; where there is none nothing is done.
+class Pinning {
+  constructor(processors) {
+    this.processors = processors;
+    this.before = new Map();      // ticks of threads at the last look
+    this.pinned = new Map();      // processors of threads
+  }
+
+  // Looks at all threads of these processes, and pins those that have been busiest since the last look.
+  look(pids) {
+    if (this.processors.length < 2) return;
+    const threads = pids.flatMap(threadsOf);
+    const used = threads.map(({ thread, ticks }) => ({ thread, used: ticks - (this.before.get(thread) ?? 0) }));
+    this.before = new Map(threads.map(({ thread, ticks }) => [thread, ticks]));
+    const busiest = used.sort((one, other) => other.used - one.used).slice(0, this.processors.length).filter((each) => each.used > 0);
+    const chosen = new Set(busiest.map(({ thread }) => thread));
+    if (busiest.length < this.processors.length) return;
+    for (const thread of [...this.pinned.keys()]) if (!chosen.has(thread)) this.release(thread);
+    const free = this.processors.filter((number) => ![...this.pinned.values()].includes(number));
+    for (const thread of chosen) if (!this.pinned.has(thread)) this.pin(thread, free.shift());
+  }
+
+  pin(thread, number) {
+    this.pinned.set(thread, number);
+    this.set(thread, String(number));
+  }
+
+  release(thread) {
+    this.pinned.delete(thread);
+    this.set(thread, this.processors.join(','));
+  }
+
+  set(thread, list) {
+    execFile('taskset', ['-cp', list, thread], () => {});
+  }
+}
+
+module.exports = { Machine, Pinning, busySince, ticksOf };

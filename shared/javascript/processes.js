@@ -10,17 +10,18 @@ const ROUNDS = 40, PAUSE = 25;       // how often, and after how many millisecon
 
 const clock = new Int32Array(new SharedArrayBuffer(4));
 
-function readOf(pid, name) {
+// A file of /proc, or null where it isn't there, or isn't ours.
+function readOf(name) {
   try {
-    return fs.readFileSync(`/proc/${pid}/${name}`, 'latin1');
+    return fs.readFileSync(`/proc/${name}`, 'latin1');
   } catch {
-    return null;   // it has ended, or isn't ours
+    return null;
   }
 }
 
-// What /proc says of a process; its key tells it from a later one of the same number.
-function processOf(pid) {
-  const text = readOf(pid, 'stat');
+// What /proc says of a process, or in this place of a thread; its key tells it from a later one of the same number.
+function processOf(pid, place = pid) {
+  const text = readOf(`${place}/stat`);
   if (text === null) return null;
   const words = text.slice(text.lastIndexOf(')') + 2).split(' ');
   const [state, parent, group, session] = words;
@@ -30,15 +31,16 @@ function processOf(pid) {
   };
 }
 
-function everyProcess() {
-  let names = [];
+// The names in a folder of /proc; where there is none there are no names.
+function namesIn(folder) {
   try {
-    names = fs.readdirSync('/proc');
+    return fs.readdirSync(folder);
   } catch {
-    // There is no /proc.
+    return [];
   }
-  return names.filter((name) => /^[0-9]+$/.test(name)).map((name) => processOf(Number(name))).filter(Boolean);
 }
+
+const everyProcess = () => namesIn('/proc').filter((name) => /^[0-9]+$/.test(name)).map((name) => processOf(Number(name))).filter(Boolean);
 
 class Processes {
   // Those whose mark begins so.
@@ -50,7 +52,7 @@ class Processes {
 
   // Whether a process has the mark, or was found before.
   isMarked({ pid, key }) {
-    if (!this.asked.has(key)) this.asked.set(key, `\0${readOf(pid, 'environ') ?? ''}`.includes(`\0${this.sign}`));
+    if (!this.asked.has(key)) this.asked.set(key, `\0${readOf(`${pid}/environ`) ?? ''}`.includes(`\0${this.sign}`));
     return this.asked.get(key) || this.known.has(key);
   }
 
@@ -87,4 +89,4 @@ class Processes {
   }
 }
 
-module.exports = { Processes, VARIABLE, readOf };
+module.exports = { Processes, VARIABLE, namesIn, processOf, readOf };

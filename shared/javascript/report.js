@@ -9,18 +9,18 @@ const FORM = 1;   // the number of the JSON's form
 const WORD = '[A-Za-z_][A-Za-z0-9_]{0,31}';
 const NUMBER = '(?:0|[1-9][0-9]{0,14})';
 const EVENT = `(?:init\\[${NUMBER}\\]|${WORD}\\.${NUMBER})`;
-const VALUES = `((?: ${WORD}\\.r[0-7]=${NUMBER})*)`;
+const GIVEN = `((?: ${WORD}\\.r[0-7]=${NUMBER})*)`;
 const FORMS = {
   refused: new RegExp(`^refused (${NUMBER}) ([a-z_]+)(?: line (${NUMBER}))?$`),
   test: new RegExp(`^test (${WORD})$`),
-  outcome: new RegExp(`^outcome${VALUES}$`),
-  class: new RegExp(`^(?:met|unmet) (?:none|outcome${VALUES})$`),
+  outcome: new RegExp(`^outcome${GIVEN}$`),
+  class: new RegExp(`^(?:met|unmet) (?:none|outcome${GIVEN})$`),
   from: new RegExp(`^  from (${EVENT})((?: ${EVENT})+)$`),
   order: new RegExp(`^  order((?: ${EVENT})+)$`),
   outcomes: new RegExp(`^outcomes (${NUMBER})$`),
   verdict: /^verdict (always|sometimes|never)$/,
   race: /^data race (yes|no)$/,
-  interleaving: new RegExp(`^interleaving${VALUES}$`),
+  interleaving: new RegExp(`^interleaving${GIVEN}$`),
   meets: /^meets (yes|no)$/,
 };
 
@@ -105,7 +105,6 @@ class ReportReader {
     return this.match(line, 'verdict', '`verdict`')[1];
   }
 
-
   * example(values) {
     const from = [];
     let line = yield;
@@ -141,6 +140,72 @@ class ReportReader {
     return this.give(part);
   }
 }
+
+const paired = (registers, values) => registers.map((register, place) => [register, values[place]]);
+
+// A report of which a part of the outcomes alone is kept, however many there are. `outcomes` are those from place `first` on, as many as
+// `most`: each with its number, from 1, its values by register, the sources of its reads and its memory-order; of a quick report with its
+// group too; or what `as` makes of these. `other` has what the other lines say.
+class KeptReport {
+  constructor({ first = 0, most = 0, as = (outcome) => outcome }) {
+    Object.assign(this, { first, most, as, place: 0, outcomes: [], other: {}, registers: [] });
+    this.reader = new ReportReader((part) => this.give(part));
+    this.rest = '';
+  }
+
+  give(part) {
+    if (part.begins) {
+      this.registers = part.begins.registers;
+      this.other.test = part.begins.test;
+    } else if (part.outcome) this.keep(part.outcome);
+    else if (part.ends) this.end(part.ends);
+    else this.giveAll(part.all);
+  }
+
+  end({ count, verdict, data_race: race }) {
+    Object.assign(this.other, { count, verdict, ...(race === undefined ? {} : { race: race ? 'yes' : 'no' }) });
+  }
+
+  giveAll(all) {
+    if (all.kind === 'refusal') {
+      this.other.refused = `refused ${all.number} ${all.name}${all.line === undefined ? '' : ` line ${all.line}`}`;
+    } else if (all.kind === 'schedule') {
+      this.registers = all.registers;
+      Object.assign(this.other, { test: all.test, interleaving: paired(all.registers, all.values), meets: all.meets ? 'yes' : 'no' });
+    } else if (all.kind === 'quick') {
+      this.registers = all.registers;
+      Object.assign(this.other, { test: all.test, verdict: all.verdict });
+      for (const group of ['met', 'unmet']) if (all[group] !== null) this.keep(all[group], group);
+    }
+  }
+
+  keep({ values, from, order }, group) {
+    this.place += 1;
+    if (this.place <= this.first || this.place > this.first + this.most) return;
+    this.outcomes.push(this.as({
+      number: this.place, values: paired(this.registers, values), from: from.map(({ event, sources }) => [event, sources]), order,
+      ...(group ? { group } : {}),
+    }));
+  }
+
+  // Takes a piece of what the program prints.
+  take(piece) {
+    const lines = (this.rest + piece).split('\n');
+    this.rest = lines.pop();
+    for (const line of lines) this.reader.line(line);
+  }
+
+  close() {
+    if (this.rest !== '') this.reader.wrong(this.rest, 'a whole line');
+    this.reader.line(null);
+    return this;
+  }
+}
+
+// To keep the values of all outcomes alone, and what the exploring of JavaScript takes of them, or the number of a refusal.
+const VALUES = { most: Infinity, as: ({ values }) => values.map(([, value]) => value) };
+const valuesIn = ({ registers, outcomes, other }) => (
+  other.refused ? { refused: Number(other.refused.split(' ')[1]) } : { registers, outcomes, race: other.race === 'yes' });
 
 // What is no ASCII in a JSON text, as in a file's name, by its number.
 const ascii = (text) => text.replace(/[^\0-\x7f]/g, (sign) => `\\u${sign.charCodeAt(0).toString(16).padStart(4, '0')}`);
@@ -201,22 +266,12 @@ function linesOf(part, registers) {
   return LINES_OF_ALL[part.all.kind](part.all);
 }
 
-// Gives each part of the report that a stream holds, and calls `after` after each line.
-async function readReport(stream, give, after) {
-  const reader = new ReportReader(give);
-  await eachLine(stream, (line) => {
-    reader.line(line);
-    return after();
-  });
-  reader.line(null);
-}
-
-// The same of several reports, one after the other; `begin` is called for each, and returns what its parts are given to. No line
-// but its first begins as that does.
-async function readReports(stream, begin, after) {
+// Gives each part of the report that a stream holds, or of `several`, one after the other; `begin` is called for each, and returns what its
+// parts are given to, `after` after each line. No line of a report but its first begins as that does.
+async function readReports(stream, begin, { after = () => undefined, several = false } = {}) {
   let reader = new ReportReader(begin());
   await eachLine(stream, (line) => {
-    if (reader.number > 0 && /^(?:test|refused) /.test(line)) {
+    if (several && reader.number > 0 && /^(?:test|refused) /.test(line)) {
       reader.line(null);
       reader = new ReportReader(begin());
     }
@@ -226,4 +281,4 @@ async function readReports(stream, begin, after) {
   reader.line(null);
 }
 
-module.exports = { FORM, ReportReader, jsonWriter, linesOf, readReport, readReports };
+module.exports = { FORM, KeptReport, ReportReader, VALUES, jsonWriter, linesOf, readReports, valuesIn };

@@ -4,14 +4,13 @@
 const fs = require('fs');
 const path = require('path');
 const { bytesIn, TOP } = require('./command.js');
-const { limits } = require('./limits.js');
+const limits = require('../limits.json');
 const { notesOfReport, reported } = require('./noting.js');
 const { inOrder } = require('./pool.js');
-const { builtProgram, tellText } = require('./programs.js');
+const { testIn } = require('./programs.js');
 const { runOf } = require('./running.js');
-const { short, statusOf, strerror, stripped } = require('./system.js');
+const { pathOf, statusOf, strerror } = require('./system.js');
 const { VERSION } = require('./version.js');
-const { pathOf } = require('./words.js');
 
 const EXPECT = /(?<![^\n])\/\/ expect:([^\n]*)/g;
 const FORM = /^ verdict ([a-z]+), outcomes ([0-9]+), data race ([a-z]+)[ \t\r]*$/;
@@ -54,17 +53,6 @@ function faultOf(file) {
   }
 }
 
-const ascii = (value) => JSON.stringify(value).replace(/[^\0-\x7e]/g, (sign) => `\\u${sign.charCodeAt(0).toString(16).padStart(4, '0')}`);
-
-// JSON with blanks, as Python writes it.
-function spaced(value) {
-  if (Array.isArray(value)) return `[${value.map(spaced).join(', ')}]`;
-  if (value === null || typeof value !== 'object') return ascii(value);
-  return `{${Object.entries(value).map(([name, each]) => `${ascii(name)}: ${spaced(each)}`).join(', ')}}`;
-}
-
-const fractional = (seconds) => (Number.isInteger(seconds) ? seconds.toFixed(1) : String(seconds));
-
 // What came of a file: `result` is passed, failed, or seen, where the file states nothing to compare.
 class Result {
   constructor(file) {
@@ -76,15 +64,13 @@ class Result {
   }
 
   tsv() {
-    return FIELDS.map((name) => [name, this[name] ?? ''])
-      .map(([name, value]) => printedName(name === 'seconds' && value !== '' ? fractional(value) : String(value))).join('\t');
+    return FIELDS.map((name) => printedName(String(this[name] ?? ''))).join('\t');
   }
 
   json() {
     const told = { ...this, data_race: this.data_race && this.data_race === 'yes' };
-    const fields = [...FIELDS, 'notes'].filter((name) => told[name] !== undefined)
-      .map((name) => `"${name}": ${name === 'seconds' ? fractional(told[name]) : spaced(told[name])}`);
-    return `{${[`"form": ${FORM_OF_JSON}`, `"jslit": ${ascii(VERSION)}`, ...fields].join(', ')}}`;
+    const fields = [...FIELDS, 'notes'].map((name) => [name, told[name]]);
+    return JSON.stringify({ form: FORM_OF_JSON, jslit: VERSION, ...Object.fromEntries(fields) });
   }
 }
 
@@ -123,8 +109,7 @@ class Runs {
   }
 
   async noted(data) {
-    const { test } = await tellText(await builtProgram('jslit-text'), 'the text', data);
-    return notesOfReport(data, test, await reported(this.program, [], data, this.limit * 1000));
+    return notesOfReport(data, await testIn('the text', data), await reported(this.program, [], data, this.limit * 1000));
   }
 
   // Runs the program on a text; what is wrong, or null.
@@ -141,13 +126,13 @@ class Runs {
     try {
       run = await runOf(command, words, data, { limit: this.limit * 1000, take });
     } catch (error) {
-      return strerror(error.cause ?? error);
+      return error.message;
     }
     result.seconds = Number(((performance.now() - begun) / 1000).toFixed(4));
-    if (run.late) return `no report within ${short(this.limit)} seconds`;
+    if (run.late) return `no report within ${this.limit} seconds`;
     const [answer, refused] = [LAST.exec(last), REFUSED.exec(first)];
     if (refused) Object.assign(result, { number: Number(refused[1]), word: refused[2], line: refused[3] && Number(refused[3]) });
-    const [said] = stripped(first + run.said).split('\n');
+    const [said] = (first + run.said).trim().split('\n');
     if (statusOf(run) || !answer) return `status ${statusOf(run)}, ${printedName(said || 'no report')}`;
     Object.assign(result, { outcomes: Number(answer[1]), verdict: answer[2], data_race: answer[3] });
     return null;

@@ -1,21 +1,39 @@
 'use strict';
-// Names, numbers and faults of the system in the words in which commands print them.
+// What the system gives to a command: its words, and names, numbers and faults in the words in which commands print them.
 
+const fs = require('fs');
 const os = require('os');
 const { getSystemErrorMap } = require('util');
-const { pathOf } = require('./words.js');
 
-// Where the C library says something else of a fault than Node does.
-const OTHERS = {
-  EADDRNOTAVAIL: 'Cannot assign requested address', EBUSY: 'Device or resource busy', EEXIST: 'File exists', EIO: 'Input/output error',
-  EISDIR: 'Is a directory', ELOOP: 'Too many levels of symbolic links', ENAMETOOLONG: 'File name too long',
-  ENFILE: 'Too many open files in system', ENOMEM: 'Cannot allocate memory', ESPIPE: 'Illegal seek', ETXTBSY: 'Text file busy',
-  EXDEV: 'Invalid cross-device link',
-};
+// The words of a command as they were given: Node takes them for UTF-8, which a file's name need not be. A byte that is none stands as a
+// character from U+DC80 on, as in Python. By /proc, so on Linux; elsewhere they are Node's.
+const isUtf8 = (bytes) => Buffer.from(bytes.toString('utf8'), 'utf8').equals(bytes);
+const byteSign = (byte) => (byte < 128 ? String.fromCharCode(byte) : String.fromCharCode(0xdc00 + byte));
 
-// What the C library says of a call that failed.
+function wordOf(bytes) {
+  return isUtf8(bytes) ? bytes.toString('utf8') : [...bytes].map(byteSign).join('');
+}
+
+function givenWords() {
+  const words = process.argv.slice(2);
+  try {
+    const all = fs.readFileSync('/proc/self/cmdline').toString('latin1').split('\0').slice(0, -1);
+    return words.length === 0 ? [] : all.slice(-words.length).map((word) => wordOf(Buffer.from(word, 'latin1')));
+  } catch {
+    return words;
+  }
+}
+
+// A word as the path that it names.
+function pathOf(word) {
+  if (!/[\udc80-\udcff]/.test(word)) return word;
+  return Buffer.concat([...word].map((sign) => (
+    /[\udc80-\udcff]/.test(sign) ? Buffer.from([sign.charCodeAt(0) & 255]) : Buffer.from(sign, 'utf8'))));
+}
+
+// What is said of a call that failed; of a folder as other commands say it.
 function strerror({ code, errno, message }) {
-  const said = OTHERS[code] ?? getSystemErrorMap().get(errno)?.[1] ?? message;
+  const said = code === 'EISDIR' ? 'Is a directory' : getSystemErrorMap().get(errno)?.[1] ?? message;
   return said[0].toUpperCase() + said.slice(1);
 }
 
@@ -23,17 +41,7 @@ function strerror({ code, errno, message }) {
 const shown = (name) => [...String(name)].map((sign) => (sign === ' ' || !/[\p{C}\p{Z}]/u.test(sign) ? sign
   : [...Buffer.from(pathOf(sign))].map((byte) => `\\x${byte.toString(16).padStart(2, '0')}`).join(''))).join('');
 
-// A number in few digits, as C's %g prints it.
-function short(number) {
-  const [digits, exponent] = number.toExponential(5).split('e');
-  if (exponent >= -4 && exponent <= 5) return String(Number(number.toPrecision(6)));
-  return `${Number(digits)}e${exponent[0]}${exponent.slice(1).padStart(2, '0')}`;
-}
-
-// A text without the blanks around it.
-const stripped = (text) => text.replace(/^[\s\x1c-\x1f\x85]+|[\s\x1c-\x1f\x85]+$/g, '');
-
 // How a process ended: its status, or the number of the signal that ended it, below 0.
 const statusOf = ({ status, signal }) => (signal ? -os.constants.signals[signal] : status ?? 0);
 
-module.exports = { short, shown, statusOf, strerror, stripped };
+module.exports = { givenWords, pathOf, shown, statusOf, strerror, wordOf };

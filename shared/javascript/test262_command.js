@@ -2,8 +2,10 @@
 // The command jslit-test262; docs/ENGINES.md describes it.
 
 const { testAndReport } = require('./allowed.js');
-const { Failure, JSLIT, grouped, help, oneFile, readWords, run } = require('./command.js');
+const { Failure, grouped, run } = require('./command.js');
 const { agentCode, conditionCode, mixesSizes } = require('./code.js');
+const { readOptions } = require('./options.js');
+const { findProgram } = require('./programs.js');
 const { accessesOf } = require('./text/tests.js');
 
 const MOST_OUTCOMES = 300;
@@ -113,9 +115,9 @@ for (var number = 0; number < COPIES; number++) {
 }
 
 async function main(given) {
-  const words = readWords(given, { program: JSLIT, report: null });
-  if (words.help) return help();
-  const { text, test, allowed } = await testAndReport({ ...words, file: oneFile(words.paths) });
+  const words = readOptions(given, { least: 1, most: 1 });
+  if (words === null) return 0;
+  const { text, test, allowed } = await testAndReport({ ...words, program: await findProgram(words.program), file: words.paths[0] });
   if (allowed.count !== allowed.outcomes.length) {
     throw new Failure(1, `the report says ${allowed.count} outcomes, and has ${allowed.outcomes.length}`);
   }

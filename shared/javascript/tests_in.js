@@ -6,7 +6,7 @@ const fs = require('fs');
 const path = require('path');
 const { Failure } = require('./command.js');
 const { plain } = require('./lines.js');
-const { pathOf, wordOf } = require('./words.js');
+const { pathOf, wordOf } = require('./system.js');
 
 const joined = (folder, name) => (folder.endsWith('/') ? folder + name : `${folder}/${name}`);
 const byName = (one, other) => (one < other ? -1 : Number(one > other));
@@ -49,22 +49,11 @@ function* filesIn(paths) {
   }
 }
 
-// The same folder by folder, as engines run them: what is there and can't be read is a file that fails.
-function inFolder(folder, seen) {
-  try {
-    const own = (name) => (name.endsWith('.lit') ? [path.normalize(name)] : []);
-    return namesIn(folder, seen).flatMap((name) => (isFolder(name) ? inFolder(name, seen) : own(name)));
-  } catch {
-    return [path.normalize(folder)];
-  }
-}
-
-function testsIn(paths) {
-  return paths.flatMap((each) => {
-    const found = isFolder(each) ? inFolder(each, new Set()) : [each];
-    if (found.length === 0) throw new Failure(1, `${plain(each)} has no .lit file`);
-    return found;
-  });
-}
+// The same as engines run them: of a folder there has to be one.
+const testsIn = (paths) => paths.flatMap((each) => {
+  const found = [...filesIn([each])].filter((name) => name === each || !(name.endsWith('.lit') && isFolder(name)));
+  if (isFolder(each) && found[0] === joined(each, '*.lit')) throw new Failure(1, `${plain(each)} has no .lit file`);
+  return isFolder(each) ? found.map((name) => path.normalize(name)) : found;
+});
 
 module.exports = { filesIn, isFolder, testsIn };

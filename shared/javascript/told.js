@@ -2,7 +2,7 @@
 // What the agents of a run told, and whether the engine failed: any end but by itself with status 0, words of a sanitizer, an
 // assertion or a fatal error, and agents that told nothing, or what isn't so.
 
-const { Allowed } = require('./allowed.js');
+const { keyOf } = require('./allowed.js');
 const { plain } = require('./lines.js');
 
 const isCount = (number, most = Number.MAX_SAFE_INTEGER) => Number.isSafeInteger(number) && number >= 0 && number <= most;
@@ -29,7 +29,7 @@ function wordOf(line, registers) {
 function addUp(words) {
   const seen = new Map();
   for (const [values, times] of words.flatMap((word) => word.seen)) {
-    const key = Allowed.key(values);
+    const key = keyOf(values);
     seen.set(key, { values, times: times + (seen.get(key)?.times ?? 0) });
   }
   const sum = (name) => words.reduce((total, word) => total + word[name], 0);

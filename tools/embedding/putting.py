@@ -3,7 +3,7 @@ import json
 import pathlib
 
 from building.kit import need
-from installing.place import make_folder, replace
+from installing.place import put_all
 from litmus.ends import Words, shown
 from litmus.program import TOP
 
@@ -18,8 +18,7 @@ def put(tool, help_text, part, given):
     parser.add_argument("folder", type=pathlib.Path, nargs="?", default=TOP / "out" / "embed")
     folder = parser.parse_args(given).folder.absolute()
     need(*part.NEEDS)
-    for name, file in part.files(addresses()).items():
-        make_folder((folder / name).parent)
-        replace(folder / name, file)
-        print(shown(folder / name))
+    files = part.files(addresses())
+    put_all(folder, files)
+    print(*(shown(folder / name) for name in files), sep="\n")
     return 0

@@ -2,22 +2,11 @@
 import re
 import subprocess
 
-COMMANDS = {
-    "jslit": "the outcomes that the memory model of ECMAScript allows a litmus test",
-    "jslit-atomize": "which accesses of a litmus test have to go through Atomics",
-    "jslit-check": "check or look at many litmus tests",
-    "jslit-compare": "whether a rewriting of a litmus test is allowed",
-    "jslit-diy": "litmus tests from cycles of edges",
-    "jslit-draw": "draw an execution of a litmus test",
-    "jslit-engine": "run litmus tests on real engines",
-    "jslit-explain": "explain why a litmus text is refused",
-    "jslit-js": "the outcomes that the memory model allows JavaScript on shared memory",
-    "jslit-json": "reports of jslit as JSON, and back",
-    "jslit-page": "litmus tests in a browser",
-    "jslit-test262": "write a litmus test as a file of test262",
-    "jslit-text": "what a litmus text says, as JSON",
-    "jslit-why": "why no execution of a litmus test meets its condition",
-}
+from litmus.program import TOP
+
+# Each command with what it is, as its section of docs/COMMANDS.md begins.
+COMMANDS = {name: first.lower() + rest for name, first, rest in
+            re.findall(r"^## (jslit\S*)\n\n(\w)(.*)\.$", (TOP / "docs" / "COMMANDS.md").read_text(), re.M)}
 # What is proved: by --version it prints the toolchain too.
 PROVED = ("jslit", "jslit-text", "jslit-why")
 # What a value is called that is a file's name.

@@ -17,16 +17,12 @@ def page_of(command, version, date):
     for place, text in enumerate(command.text):
         lines += [".SH DESCRIPTION" if place == 0 else ".PP", *map(escaped, text.split("\n"))]
     for heading, rows in command.sections:
-        lines += [f".SH {heading.upper()}", ".nf", *map(escaped, map(shifted, rows)), ".fi"]
+        lines += [f".SH {heading.upper()}", ".nf", *map(escaped, (row.removeprefix("  ") for row in rows)), ".fi"]
     addresses = json.loads((TOP / "shared" / "published.json").read_text())
     lines += [".SH REPORTING FAULTS", escaped(f"To {addresses['faults']}; the repository is {addresses['repository']}.")]
     others = [name for name in COMMANDS if name != command.name]
     lines += [".SH SEE ALSO", ",\n".join(f".BR {escaped(name)} (1)" for name in others).replace(" (1),", " (1),")]
     return "\n".join(lines) + "\n"
-
-
-def shifted(row):
-    return row.removeprefix("  ")
 
 
 def joined(usage):

@@ -213,6 +213,13 @@ def replace(path, file):
     os.replace(aside, path)
 
 
+def put_all(folder, files):
+    """Puts files below a folder, which is no installation: there is no list of them."""
+    for name, file in files.items():
+        make_folder((folder / name).parent)
+        replace(folder / name, file)
+
+
 def remove_if_empty(folder):
     try:
         folder.rmdir()

@@ -5,6 +5,6 @@ declare function copy(...given: any[]): void;
 // What the agents of jslit-js run on, by shared/javascript/js/run.js.
 declare const host: any;
 // What the page's frame and its worker are given, by tools/web/modules.js.
-declare const worker: string, sources: Record<string, string>;
+declare const worker: string, sources: Record<string, { source: string, places: Record<string, string> }>;
 declare function say(...given: any[]): void;
 declare const setSharedArrayBuffer: any, getSharedArrayBuffer: any, evalInWorker: any, sleep: any, readline: any, setImmediate: any, gc: any;

@@ -1,4 +1,5 @@
 """The programs that tools and checks run, and the version of all."""
+import json
 import pathlib
 import subprocess
 import sys
@@ -10,6 +11,8 @@ JSLIT = TOP / "bin" / "jslit"
 NO_PROGRAM = 70  # the status of docs/COMMANDS.md for a program that isn't there
 # Of each program the crate that it is built from.
 CRATES = {"jslit": "jslit_cli", "jslit-text": "jslit_text", "jslit-why": "jslit_why"}
+# The limits of a text and of a test: those that jslit-text says, which check-text compares.
+LIMITS = json.loads((TOP / "shared" / "limits.json").read_text())
 
 
 def version():
@@ -64,13 +67,3 @@ def built(named):
     if status:
         raise Fault(f"{shown(named)}: it doesn't run: --help ends with status {status}", NO_PROGRAM)
     return str(program)
-
-
-def built_text():
-    """The program of bin/jslit-text."""
-    return own("jslit-text")
-
-
-def built_why():
-    """The program of bin/jslit-why."""
-    return own("jslit-why")

@@ -1,7 +1,7 @@
 """First attempts at a text, each with what bin/jslit-explain has to say: a line in place of one of BASE, the token at the caret
 ('' where something is missing at the end), and words of the advice. WHOLE has whole texts, with the line at fault. SEVERAL has
 texts with all their faults: of each the line, what the program says of it, and the last thing that is said."""
-from litmus import limits
+from litmus.program import LIMITS
 
 BASE = """test t
 bytes 4
@@ -38,8 +38,8 @@ LINES = [
     (2, "bytes", "", "write: bytes 8"),
     (2, "bytes \u00b2", "\u00b2", "`\u00b2` (U+00B2) is no ASCII"),
     (1, "test t;\nbytes \u00b2", ";", "no `;` and no `,` ends a line"),
-    (2, "bytes 0", "0", f"1 to {limits.BLOCK} bytes"),
-    (2, "bytes 64", "64", f"1 to {limits.BLOCK} bytes"),
+    (2, "bytes 0", "0", f"1 to {LIMITS['block']} bytes"),
+    (2, "bytes 64", "64", f"1 to {LIMITS['block']} bytes"),
     (2, "bytes 0x10", "x10", "write: bytes 16"),
     (2, "// none", "agent", "`bytes N`, the size of the block: it is missing"),
     (3, "agent A:", ":", "write: agent A"),
@@ -204,14 +204,14 @@ WHOLE = [
     ("", 1, "the text is empty"),
     ("test t\nbytes 4\n" + A + LOADS + "if r0 == 1 {\n" + LOADS, 6, "the `if` on line 5 isn't ended"),
     ("test t\nbytes 4\n" + A + "U8[0] = 1\n", 4, "none does"),
-    ("test t\nbytes 4\n" + "".join(f"agent a{n}\n" for n in range(limits.AGENTS + 1)) + "check a0.r0 == 0\n", limits.AGENTS + 3,
-     f"a test has {limits.AGENTS} agents at most"),
+    ("test t\nbytes 4\n" + "".join(f"agent a{n}\n" for n in range(LIMITS["agents"] + 1)) + "check a0.r0 == 0\n", LIMITS["agents"] + 3,
+     f"a test has {LIMITS['agents']} agents at most"),
     ("test t\nbytes 4\n" + A + LOADS + "if r0 == 0 {\n" * 9 + "}\n" * 9 + "check A.r0 == 0\n", 13, "8 ifs can be open, here those on lines 5, 6"),
     ("test t\n" + "\n" * 65_000 + "x\n", 65_002, "`x` can't stand here"),
     ("test t\n" + " " * 65_000 + "\nx\n", 3, "`x` can't stand here"),
-    ("test t\nbytes 4\n" + A + LOADS + "check A.r0 == 0\n" + " " * 65536, 1, f"the text has more than {limits.TEXT} bytes:"),
-    ("test t\nbytes 4\n" + A + LOADS * (limits.ACCESSES - 1) + "agent B\n" + LOADS * 3 + "check A.r0 == 0\n", None,
-     f"A {limits.ACCESSES - 1}, B 3 accesses: {limits.ACCESSES + 2} together, and {limits.ACCESSES} at most"),
+    ("test t\nbytes 4\n" + A + LOADS + "check A.r0 == 0\n" + " " * 65536, 1, f"the text has more than {LIMITS['text']} bytes:"),
+    ("test t\nbytes 4\n" + A + LOADS * (LIMITS["accesses"] - 1) + "agent B\n" + LOADS * 3 + "check A.r0 == 0\n", None,
+     f"A {LIMITS['accesses'] - 1}, B 3 accesses: {LIMITS['accesses'] + 2} together, and {LIMITS['accesses']} at most"),
     ("test t\nbytes 4\n" + A + LOADS + "if r0 == 0 {\n}\n" * 13 + "check A.r0 == 0\n", None,
      "A has 8192 paths (lines 5, 7, 9, 11, 13, 15, 17, 19, 21, 23, 25, 27, 29): 8192 combinations"),
     ("test t\nbytes 4\n" + A + "r0 = U32[0]\n" * 7 + "agent B\nU32[0] = 1\nU32[0] = 2\nU32[0] = 3\ncheck A.r0 == 0\n", None,
@@ -276,7 +276,7 @@ SEVERAL = [
     ("test t\nbytes 4\nagent A\nU8[0]\nAtomics.load(U8, 1)\nr0 = U8[2]\ncheck A.r0 == 0\n",
      [(4, "3 syntax", "write: r1 = U8[0]"), (5, "3 syntax", "write: r2 = Atomics.load(U8, 1)")]),
     # All eight registers are used.
-    ("test t\nbytes 4\nagent A\n" + "".join(f"r{n} = U8[0]\n" for n in range(limits.REGISTERS)) + "U8[1]\ncheck A.r0 == 0\n",
+    ("test t\nbytes 4\nagent A\n" + "".join(f"r{n} = U8[0]\n" for n in range(LIMITS["registers"])) + "U8[1]\ncheck A.r0 == 0\n",
      [(12, "3 syntax", "what is read goes to a register, always, and this agent uses all eight: let one of them go")]),
     # A line for which there is nothing to write: what follows of its own is told, and nothing that might come of it.
     ("test t\nbytes 4\nagent A\nwhile r0 == 0 {\nr0 = U8[0];\n}\nU8[1] = 256\nagent B\ncheck A.r1 == 0\n",

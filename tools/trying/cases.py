@@ -1,4 +1,5 @@
 """The cases of a check, run by unittest: each is a function that is given a room of its own, and fails by an assertion or any other error."""
+import os
 import signal
 import subprocess
 import sys
@@ -49,6 +50,29 @@ def take_signals():
 def named_program():
     """The program that the words of a check name, by default jslit."""
     return built(next(iter(sys.argv[1:]), None))
+
+
+def where_full(*words, **more):
+    """The status and what is said where the output takes nothing."""
+    with open("/dev/full", "w") as full:
+        run = subprocess.run(words, stdout=full, stderr=subprocess.PIPE, text=True, **more)
+    return run.returncode, run.stderr
+
+
+def said(*words, **more):
+    """What a command prints, which has to end with status 0."""
+    run = subprocess.run(words, capture_output=True, text=True, timeout=3000, **more)
+    assert run.returncode == 0, f"{words}: status {run.returncode}, {run.stdout[-200:]}{run.stderr[-300:]}"
+    return run.stdout
+
+
+def run_in(make):
+    """Runs all cases in one room, which `make` makes of a folder that everybody may look into, and ends with the status."""
+    with tempfile.TemporaryDirectory() as folder:
+        os.chmod(folder, 0o755)
+        room = make(folder)
+        faults = faults_of(lambda _: room)
+    sys.exit(told(faults, len(CASES)))
 
 
 def run(room):

@@ -3,7 +3,7 @@ import hashlib
 import json
 import subprocess
 
-from litmus.program import TOP, built_text, built_why
+from litmus.program import TOP, own
 from trying.serving import litmus, reads, same
 
 PART = 1000  # outcomes of a report that an answer has
@@ -43,7 +43,7 @@ def printed(page, path):
 
 def every_call(page):
     """Each text of litmus/ and some that are refused by each call of the package: the program's status and bytes."""
-    programs = (page.program, built_text(), built_why())
+    programs = (page.program, own("jslit-text"), own("jslit-why"))
     page.value(LOAD % (json.dumps((TOP / "embed" / "npm" / "index.mjs").read_text()), 512))
     calls = ", ".join(f"jslit.{call}" for call in CALLS)
     for text in [*(path.read_text() for path in sorted((TOP / "litmus").rglob("*.lit"))), *REFUSED]:

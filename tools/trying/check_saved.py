@@ -8,7 +8,8 @@ import tempfile
 import xml.dom.minidom
 
 from litmus.program import TOP
-from trying.serving import litmus, same, wait_for
+from trying.processes import wait_for
+from trying.serving import litmus, same
 
 
 def saved(page):
@@ -26,7 +27,7 @@ def saved(page):
                              ("save-png", "mpplain-3.png")):
             page.click(f"#{button}")
             path = pathlib.Path(folder) / name
-            wait_for(lambda: path.exists() and path.stat().st_size)
+            assert wait_for(lambda: path.exists() and path.stat().st_size), f"{name} isn't saved"
             files[button] = path.read_bytes()
             if page.shots and path.suffix != ".txt":
                 (page.shots / f"saved{path.suffix}").write_bytes(files[button])

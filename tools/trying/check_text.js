@@ -8,7 +8,7 @@
 
 const fs = require('fs');
 const { spawn } = require('child_process');
-const { limits } = require('../../shared/javascript/limits.js');
+const limits = require('../../shared/limits.json');
 const { accessesOf, branchesOf, isIf } = require('../../shared/javascript/text/tests.js');
 
 const AT_A_TIME = 8;

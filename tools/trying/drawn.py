@@ -89,7 +89,7 @@ WRONG = [
     (["litmus/sb.lit", "A\x1b=B\n"], 2, "A\\x1b=B\\x0a is no EVENT=SOURCE"),
     (["--why", "--unmet", "litmus/mask.lit"], 1, "always: there is no attempt, since no path can make B.r0 != 0 true"),
     (["--race", "litmus/sb.lit"], 1, "no execution has a data race"),
-    (["--why", "--race", "litmus/sb.lit"], 2, "not allowed with argument"),
+    (["--why", "--race", "litmus/sb.lit"], 2, "--why and --race don't go together"),
     (["--unmet", "litmus/sb.lit"], 2, "--unmet goes with --why"),
     (["--why", "litmus/sb.lit", "1"], 2, "nothing stands with --why and --race"),
 ]

@@ -5,7 +5,8 @@ import json
 import zlib
 
 from trying.browser import Browser
-from trying.serving import same, wait_for
+from trying.processes import wait_for
+from trying.serving import same
 
 TOLD = "document.querySelector('#verdict.is-told')"
 DRAWN = "document.querySelector('#picture svg') && document.querySelector('#picture').getAttribute('aria-busy') === 'false'"
@@ -22,9 +23,6 @@ class Page(Browser):
     def __init__(self, site, address, shots):
         super().__init__()
         self.site, self.address, self.program, self.shots = site, address, site.program, shots
-
-    def start(self):
-        self.open(self.address)
 
     def take(self, text):
         """Writes the text as a user does, in place of the one that stands there."""
@@ -62,7 +60,7 @@ class Page(Browser):
 
     def link(self):
         """The address, which takes a text a moment after it was written, once it holds the one that stands there, packed."""
-        wait_for(lambda: unpacked(self.value("location.hash").removeprefix("#t=~")) == self.text())
+        assert wait_for(lambda: unpacked(self.value("location.hash").removeprefix("#t=~")) == self.text())
         return self.value("location.href")
 
     def open_link(self, selector):
@@ -92,6 +90,6 @@ class Page(Browser):
 
 def with_page(case, site, serving, folder, shots):
     with serving(folder) as address, contextlib.closing(Page(site, address, shots)) as page:
-        page.start()
+        page.open(address)
         case(page)
         same(page.faults(), [])

@@ -4,10 +4,12 @@
 // edges that go through a box; or why there is none. TEXT and WHY are the paths of jslit-text and jslit-why.
 
 const fs = require('fs');
-const { stayTogether } = require('../../shared/javascript/command.js');
+const { spawnSync } = require('child_process');
 const { hits } = require('../../shared/javascript/executions/picture.js');
 const scenes = require('../../shared/javascript/executions/scenes.js');
-const { tellText, tellWhy } = require('../../shared/javascript/programs.js');
+
+// What a program says, as JSON, of a text.
+const told = (program, words, input) => JSON.parse(spawnSync(program, words, { input, maxBuffer: 1 << 28 }).stdout);
 
 // Edges that go through a box: lines that meet one in which they neither begin nor end.
 function through({ boxes, segments }) {
@@ -17,8 +19,8 @@ function through({ boxes, segments }) {
 
 async function drawn(text, why, { kind, file, sources = {}, values = {}, unmet = false }) {
   const data = fs.readFileSync(file);
-  const { test } = await tellText(text, file, data);
-  const ask = (words) => tellWhy(why, words, file, data);
+  const { test } = told(text, [], data);
+  const ask = async (words) => told(why, ['--json', ...words], data);
   const given = {
     example: [new Map(Object.entries(sources)), new Map(Object.entries(values))], chosen: [new Map(Object.entries(sources))], attempt: [unmet], race: [],
   }[kind];
@@ -29,7 +31,6 @@ async function drawn(text, why, { kind, file, sources = {}, values = {}, unmet =
 }
 
 async function main([text, why]) {
-  stayTogether();
   for (const line of fs.readFileSync(0, 'utf8').split('\n').filter(Boolean)) {
     const answer = await drawn(text, why, JSON.parse(line)).catch((error) => ({ fault: error.message }));
     process.stdout.write(`${JSON.stringify(answer)}\n`);

@@ -16,7 +16,7 @@ def marked(mark):
     return found
 
 
-def wait_for(holds, seconds=10):
+def wait_for(holds, seconds=15):
     """Whether it comes to hold, in so many seconds."""
     end = time.monotonic() + seconds
     while not holds():

@@ -33,12 +33,6 @@ class Room:
         run = self.ended(*words, **more)
         return run.stdout + run.stderr
 
-    def where_full(self, *words):
-        """The status and what is said where the output takes nothing."""
-        with open("/dev/full", "w") as full:
-            run = subprocess.run(self.line(*words), cwd=self.folder, stdout=full, stderr=subprocess.PIPE, text=True)
-        return run.returncode, run.stderr
-
     def write(self, name, text):
         (self.folder / name).write_bytes(text.encode())
         return name

@@ -7,7 +7,6 @@ import json
 import shutil
 import subprocess
 import threading
-import time
 import urllib.parse
 
 from litmus.program import TOP
@@ -102,10 +101,3 @@ def litmus(name):
 
 def same(seen, wanted):
     assert seen == wanted, f"{str(seen)[:300]} is not {str(wanted)[:300]}"
-
-
-def wait_for(holds, seconds=15):
-    end = time.monotonic() + seconds
-    while not holds():
-        assert time.monotonic() < end, "never"
-        time.sleep(0.02)

@@ -84,17 +84,6 @@ def write_file(path, text):
         path.write_text(text)
 
 
-class Tally:
-    def __init__(self):
-        self.passed, self.failed, self.lock = 0, 0, threading.Lock()
-
-    def note(self, name, fault):
-        with self.lock:
-            self.passed, self.failed = self.passed + (not fault), self.failed + bool(fault)
-            if fault:
-                print(f"{name}: {fault}", flush=True)
-
-
 class Repository:
     """A small repository with the scripts that are tried."""
 
@@ -168,7 +157,8 @@ class Start:
 
 class Check:
     def __init__(self, work, scripts):
-        self.work, self.scripts, self.tally, self.count = pathlib.Path(work) / "with blanks", scripts, Tally(), 0
+        self.work, self.scripts, self.count = pathlib.Path(work) / "with blanks", scripts, 0
+        self.lock, self.noted, self.faults = threading.Lock(), 0, []
         self.work.mkdir()
         self.tools = self.work / "bin"
         self.tools.mkdir()
@@ -185,8 +175,13 @@ class Check:
         write_file(path, text)
         path.chmod(0o755)
 
+    def note(self, name, fault):
+        with self.lock:
+            self.noted += 1
+            self.faults += [f"{name}: {fault}"] if fault else []
+
     def room(self):
-        with self.tally.lock:
+        with self.lock:
             self.count += 1
             return self.work / str(self.count)
 
@@ -211,4 +206,4 @@ class Check:
         fault = run.fault("right")
         if not fault and repository.builds() - begun != more:
             fault = f"{repository.builds() - begun} builds, and {more} are due"
-        self.tally.note(name, fault)
+        self.note(name, fault)

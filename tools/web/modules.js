@@ -60,8 +60,10 @@ function sandbox() {
   const packages = Object.fromEntries(Object.entries(PACKAGES).map(([name, place]) => [name, read(NODE, place)]));
   const entries = [`${JS}/page/worker.js`, `${JS}/page/host.js`, `${JS}/memory.js`, ...Object.keys(packages)];
   const text = (value) => JSON.stringify(value).replace(/</g, '\\u003c');
-  const worker = `((sources) => {${read(SHARED, JS, 'page/loader.js')}})(`
-    + `${JSON.stringify(modules(entries, packages, { [`${JS}/host.js`]: `${JS}/page/host.js` }))});`;
+  const instead = { [`${JS}/host.js`]: `${JS}/page/host.js` };
+  const found = Object.entries(modules(entries, packages, instead)).map(([place, source]) => (
+    [place, { source, places: placesOf(place, source, instead) }]));
+  const worker = `((sources) => {${read(SHARED, JS, 'page/loader.js')}})(${JSON.stringify(Object.fromEntries(found))});`;
   const framed = `((worker) => {${read(SHARED, JS, 'page/frame.js')}})(${text(worker)});`;
   const digest = crypto.createHash('sha256').update(framed).digest('base64');
   return `<!doctype html>

@@ -2,7 +2,7 @@
 // Names of cycles, as the field has them: SB, MP, IRIW, 2+2W; and which of its rotations a cycle is written in.
 
 const crypto = require('crypto');
-const { limits } = require('../limits.js');
+const limits = require('../../limits.json');
 const { agents, least, rotations } = require('./cycle.js');
 const { atom, nameOf, sourceOf, targetOf } = require('./edges.js');
 

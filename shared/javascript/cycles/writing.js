@@ -3,8 +3,9 @@
 // stores of a cell write 1, 2 and so on in the order of the cycle's edges, in each of their bytes; a load gets what the last store before
 // it along these edges left there, and else 0.
 
+const { lineOf } = require('../code.js');
 const { Failure } = require('../lines.js');
-const { limits } = require('../limits.js');
+const limits = require('../../limits.json');
 const { agents, cells, stepsToSee } = require('./cycle.js');
 const { directionOf, kindOf, sizeOf, sourceOf, wordOf } = require('./edges.js');
 const { cycleName, wordOfName } = require('./families.js');
@@ -13,15 +14,11 @@ const NAMES = 'ABCDEFGHIJKLMNOPQRSTUVWXYZ';
 
 const reads = (access) => directionOf(access) === 'R';
 
-// The statement of an access: a store of the value, or a load into the register.
-function lineOf(access, first, value, register) {
-  const [bits, index, end] = [8 * sizeOf(access), first / sizeOf(access), sizeOf(access) > 1 ? ', true' : ''];
-  if (!reads(access)) {
-    return { P: `U${bits}[${index}] = ${value}`, A: `Atomics.store(U${bits}, ${index}, ${value})`,
-      D: `DV.setUint${bits}(${first}, ${value}${end})` }[kindOf(access)];
-  }
-  const loads = { P: `U${bits}[${index}]`, A: `Atomics.load(U${bits}, ${index})`, D: `DV.getUint${bits}(${first}${end})` };
-  return `r${register} = ${loads[kindOf(access)]}`;
+// The statement of an access, as jslit-text tells it: a store of the value, or a load into the register.
+function statementOf(access, first, value, register) {
+  const [bits, isView] = [8 * sizeOf(access), kindOf(access) === 'D'];
+  return { ...(reads(access) ? { kind: 'load', register, values: [] } : { kind: 'store', register: null, values: [value] }), bits,
+    atomic: kindOf(access) === 'A', view: isView ? 'DV' : `U${bits}`, place: isView ? first : first / sizeOf(access) };
 }
 
 const composed = (content) => content.reduce((sum, byte, place) => sum + byte * 256 ** place, 0);
@@ -82,10 +79,8 @@ class Writer {
     this.agents.push({ name, statements });
     this.lines.push(`agent ${name}`);
     for (const [access, number, value] of accesses) {
-      const [first, isView, size] = [number * this.width, kindOf(access) === 'D', sizeOf(access)];
-      this.lines.push(lineOf(access, first, value, register));
-      statements.push({ kind: 'access', register: reads(access) ? register : null, atomic: kindOf(access) === 'A', bits: 8 * size,
-        view: isView ? 'DV' : `U${8 * size}`, place: isView ? first : first / size, values: reads(access) ? [] : [value] });
+      statements.push(statementOf(access, number * this.width, value, register));
+      this.lines.push(lineOf(statements.at(-1)));
       if (reads(access)) {
         this.members.push({ agent: name, register, equal: true, number: value });
         register += 1;

@@ -29,6 +29,10 @@ function told(leaf) {
   return words.join(' | ');
 }
 
+// An outcome, of what each agent gave in words.
+const textOf = (names, words) => names.map((name, place) => [name, words[place]]).filter(([, said]) => said !== '')
+  .map(([name, said]) => `${name}: ${said}`).join('   ');
+
 // An agent's value in a check: what it returned, or else the list of what it printed.
 const dataIn = (leaf) => (leaf.end === 'threw' ? { type: 'error', name: 'Error', message: leaf.value }
   : leaf.value === undefined && leaf.logs.length ? { type: 'array', items: leaf.logs.map((value) => ({ type: 'string', value })) }
@@ -72,8 +76,7 @@ function answerOf(names, ended, asked) {
   const check = asked && new Check(asked);
   const outcomes = new Map();
   for (const { leaves, values, isPerhaps } of ended) {
-    const text = leaves.map((leaf, place) => [names[place], told(leaf)]).filter(([, words]) => words !== '')
-      .map(([name, words]) => `${name}: ${words}`).join('   ');
+    const text = textOf(names, leaves.map(told));
     const holds = leaves.every(({ failed, end }) => failed.length === 0 && end !== 'assert')
       && (check === null || check.holds(names, leaves));
     const made = { text, isPerhaps, holds, leaves, values };
@@ -91,4 +94,4 @@ function answerOf(names, ended, asked) {
   return { outcomes: list, verdict: isAsked ? VERDICTS[good === 0 ? 'none' : good === list.length ? 'all' : 'some'] : null };
 }
 
-module.exports = { Check, answerOf, checkIn, dataIn, told };
+module.exports = { Check, answerOf, checkIn, dataIn, textOf, told };

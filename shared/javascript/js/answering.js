@@ -4,8 +4,8 @@
 const { answerOf, checkIn } = require('./answer.js');
 const { Details, plain } = require('./details.js');
 const { Exploring } = require('./explore.js');
-const { Places } = require('./places.js');
 const { Limit, Refusal } = require('./refusal.js');
+const { placesOf } = require('./sources.js');
 const { Program } = require('./trees.js');
 
 const WORDS = {
@@ -43,14 +43,14 @@ class Answering {
   // The files by their names, the main one's name, the harness behind it ({name, from}) or null, and a name for the texts.
   constructor({ files, main, harness, name }, asking) {
     this.program = new Program(new Map(files), main);
-    Object.assign(this, { name, asking, places: new Places(main, harness), asked: checkIn(this.program.files) });
+    Object.assign(this, { name, asking, asKnown: placesOf(main, harness), asked: checkIn(this.program.files) });
   }
 
   async explore() {
-    const { program, name, asking, places, asked } = this;
+    const { program, name, asking, asKnown, asked } = this;
     this.made = await new Exploring(program, name, (text) => asking.ask(text)).whole();
     this.answer = answerOf(this.made.trees.list.map((tree) => tree.name), this.made.ended, asked);
-    this.details = new Details(this.made, { program, name, answer: this.answer, places, asking, asked });
+    this.details = new Details(this.made, { program, name, answer: this.answer, asKnown, asking, asked });
   }
 
   // All that is wanted: {examples (whether of each outcome), why, outcome (words, or null)}.

@@ -3,43 +3,31 @@
 
 const os = require('os');
 const path = require('path');
-const { Failure, JSLIT, TOP } = require('../command.js');
+const { Failure } = require('../command.js');
 const { plain } = require('../lines.js');
 const { limited } = require('../pool.js');
-const { builtProgram } = require('../programs.js');
-const { ReportReader } = require('../report.js');
+const { builtProgram, findProgram } = require('../programs.js');
+const { KeptReport, VALUES, valuesIn } = require('../report.js');
 const { runOf } = require('../running.js');
 
-const WHY = path.join(TOP, 'bin', 'jslit-why');
 const RUNS = Math.max(1, os.cpus().length);   // of the programs, at a time
 
 function reportOf(printed) {
-  const told = { registers: [], outcomes: [], race: false };
-  const reader = new ReportReader((part) => {
-    if (part.begins) told.registers = part.begins.registers;
-    else if (part.outcome) told.outcomes.push(part.outcome.values);
-    else if (part.ends) told.race = part.ends.data_race === true;
-    else told.refused = part.all.number ?? part.all.kind;
-  });
-  for (const line of printed.split('\n').slice(0, -1)) reader.line(line);
-  reader.line(null);
-  return told;
+  const report = new KeptReport(VALUES);
+  report.take(printed);
+  return valuesIn(report.close());
 }
 
 class Asked {
   constructor({ program, why, limit }) {
-    Object.assign(this, { limit, limited: limited(RUNS), count: 0 });
-    const found = (name, path, own) => () => (path === own ? builtProgram(name) : path);
-    this.programs = new Map([['jslit', found('jslit', program, JSLIT)], ['jslit-why', found('jslit-why', why, WHY)]]);
+    Object.assign(this, { limit, limited: limited(RUNS), count: 0, found: {} });
+    this.find = { jslit: () => findProgram(program), 'jslit-why': () => (why ? path.resolve(why) : builtProgram('jslit-why')) };
   }
 
   // The path of a program, found once.
   program(name) {
-    const found = this.programs.get(name);
-    if (typeof found !== 'function') return found;
-    const path = found();
-    this.programs.set(name, path);
-    return path;
+    this.found[name] ??= this.find[name]();
+    return this.found[name];
   }
 
   // The report on a text; with words for jslit-why what that says.
@@ -59,9 +47,7 @@ class Asked {
   }
 
   async printed(program, words, text) {
-    const run = await runOf(program, words, text, { limit: this.limit * 1000 }).catch(({ cause }) => {
-      throw new Failure(70, `the program isn't run: ${plain(cause.message)}`);
-    });
+    const run = await runOf(program, words, text, { limit: this.limit * 1000 });
     if (run.late) throw new Failure(5, `the program gave no report on a text within ${this.limit} seconds (--limit)`);
     if (run.status === 3) throw new Failure(3, 'the program ran out of memory');
     if (run.signal || (run.status !== 0 && run.status !== 1)) {
@@ -71,4 +57,4 @@ class Asked {
   }
 }
 
-module.exports = { Asked, JSLIT, WHY, reportOf };
+module.exports = { Asked, reportOf };

@@ -8,24 +8,14 @@ const { Refusal } = require('./refusal.js');
 
 const say = (told) => process.stdout.write(`${JSON.stringify(told)}\n`);
 
-async function main() {
-  const asking = new Asking(say);
-  const lines = readline.createInterface({ input: process.stdin });
-  let begun = false;
-  lines.on('line', (line) => {
-    const told = JSON.parse(line);
-    if (begun) {
-      asking.answered(told);
-      return;
-    }
-    begun = true;
-    answered(told, asking).then((answer) => say({ answer }), (error) => {
-      if (!(error instanceof Refusal)) throw error;
-      say({ refusal: { text: error.message, at: error.at, status: error.status } });
-    }).finally(() => lines.close());
-  });
-}
-
 const answered = async (told, asking) => new Answering(told, asking).whole(told.wanted);
 
-main();
+const asking = new Asking(say);
+const lines = readline.createInterface({ input: process.stdin });
+lines.once('line', (line) => {
+  lines.on('line', (more) => asking.answered(JSON.parse(more)));
+  answered(JSON.parse(line), asking).then((answer) => say({ answer }), (error) => {
+    if (!(error instanceof Refusal)) throw error;
+    say({ refusal: { text: error.message, at: error.at, status: error.status } });
+  }).finally(() => lines.close());
+});

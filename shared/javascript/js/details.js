@@ -12,9 +12,9 @@ const { dataOf, shown } = require('./values.js');
 const PATIENCE = 1000;   // milliseconds for the words of an outcome
 
 class Details {
-  constructor(made, { program, name, answer, places, asking, asked }) {
-    Object.assign(this, { made, program, answer, asked, places, trees: made.trees });
-    this.executions = new Executions(name, program, made.trees, places, async (text, words) => (await asking.ask(text, words)).why);
+  constructor(made, { program, name, answer, asKnown, asking, asked }) {
+    Object.assign(this, { made, program, answer, asked, asKnown, trees: made.trees });
+    this.executions = new Executions(name, program, made.trees, asKnown, async (text, words) => (await asking.ask(text, words)).why);
   }
 
   get names() {
@@ -60,8 +60,8 @@ class Details {
   async hangs() {
     return Promise.all([...this.made.space.hangs.values()].map(async ({ ends, state }) => {
       const found = await this.executions.ofMoves(state.moves());
-      const place = (at) => (at ? this.places.at(at) : { file: null, line: null });
-      return { ends: ends.map(({ agent, at, how }) => ({ agent: this.names[agent], ...place(at), how })), ...(found ?? { steps: null }) };
+      const told = ends.map(({ agent, at, how }) => ({ agent: this.names[agent], ...this.asKnown(at), how }));
+      return { ends: told, ...(found ?? { steps: null }) };
     }));
   }
 

@@ -2,14 +2,16 @@
 // What real workers of Node showed, beside what is told.
 
 const path = require('path');
-const { Failure, grouped, start, stop } = require('../command.js');
+const { Failure, grouped } = require('../command.js');
 const { plain } = require('../lines.js');
+const { runOf } = require('../running.js');
+const { textOf } = require('./answer.js');
 const { shown } = require('./values.js');
 
 const REAL = path.join(__dirname, 'real.js');
 
 // What an agent gave, as an outcome tells it.
-function textOf({ logs, value, threw }) {
+function wordsOf({ logs, value, threw }) {
   const end = threw !== undefined ? [`throws ${threw}`] : value.type === 'undefined' ? [] : [shown(value)];
   return [...logs, ...end].join(' | ');
 }
@@ -18,8 +20,7 @@ function textOf({ logs, value, threw }) {
 function counted({ names, results }) {
   const counts = new Map();
   for (let time = 0; time < results[0].length; time += 1) {
-    const text = names.map((name, place) => [name, textOf(results[place][time])]).filter(([, words]) => words !== '')
-      .map(([name, words]) => `${name}: ${words}`).join('   ');
+    const text = textOf(names, results.map((each) => wordsOf(each[time])));
     counts.set(text, (counts.get(text) ?? 0) + 1);
   }
   return counts;
@@ -28,17 +29,9 @@ function counted({ names, results }) {
 // Runs the source so many times, in a process with these rights, for so many seconds at most.
 async function tried(source, times, patience, rights) {
   if (!/\bagents\s*\(/.test(source)) throw new Failure(1, 'only what is given to `agents({ .. })` is run on real workers');
-  const { child, ended } = start(process.execPath, [...rights, '--no-warnings', REAL], ['pipe', 'pipe', 'pipe']);
-  child.stdin.on('error', () => {});
-  child.stdin.end(JSON.stringify({ source, times, patience }));
-  let printed = '';
-  let said = '';
-  child.stdout.on('data', (piece) => { printed += piece; });
-  child.stderr.on('data', (piece) => { if (said.length < 1e5) said += piece; });
-  const clock = setTimeout(() => stop(child, 'SIGKILL'), patience * 1000 + 5000);
-  await ended;
-  clearTimeout(clock);
-  const made = printed ? JSON.parse(printed) : null;
+  const given = Buffer.from(JSON.stringify({ source, times, patience }));
+  const { out, said } = await runOf(process.execPath, [...rights, '--no-warnings', REAL], given, { limit: patience * 1000 + 5000 });
+  const made = out ? JSON.parse(Buffer.from(out, 'latin1')) : null;
   if (made === null) {
     const line = said.split('\n').find((each) => /Error/.test(each)) ?? said.slice(0, 200);
     throw new Failure(1, `on real workers it didn't come to its end: ${plain(line)}`);

@@ -3,13 +3,51 @@
 
 const { traced } = require('./interleavings.js');
 const { Limit } = require('./refusal.js');
-const { dataOf, placeOf } = require('./steps.js');
 const { Straight, wayOf } = require('./straight.js');
 
+// A step of an execution in the user's terms is plain data: {agent, file, line, code, does, reads, from, writes}; `from` has what each byte
+// that is read comes from: {bytes (null for all), agent, file, line}, or {bytes, start: true} for what is there at first.
+
+// The bytes of an access as its type shows them.
+function valueText({ type, isBig, size, first }, bits) {
+  const Type = globalThis[type];
+  if (!Type || Type.BYTES_PER_ELEMENT !== size) {
+    return Type ? `0x${bits.toString(16).padStart(8, '0')} in bytes ${first % 8} to ${first % 8 + 3}` : String(bits);
+  }
+  const bytes = Array.from({ length: size }, (_, place) => Math.floor(bits / 256 ** place) % 256);
+  const [value] = new Type(Uint8Array.from(isBig ? bytes.reverse() : bytes).buffer);
+  return Object.is(value, -0) ? '-0' : String(value);
+}
+
+function doesOf({ event, written, got, isExit }) {
+  if (event.op === 'wake') return 'is woken';
+  if (event.op === 'receive') return isExit ? 'sees the end' : 'takes the message';
+  if (event.notifies !== undefined) return 'notifies';
+  if (event.block === 'mail') return event.isExit ? 'ends' : 'sends a message';
+  if (got === undefined) return 'writes';
+  return written === null ? (event.op === 'read' ? 'reads' : 'reads and leaves') : 'reads and writes';
+}
+
+const placeOf = (at) => ({ file: at?.file ?? null, line: at?.line ?? null });
+
+// A step as data; `names` are the agents', `excerpt` gives the code of a place.
+function dataOf({ step, sources }, names, excerpt) {
+  const { agent, event, got, written } = step;
+  const does = doesOf(step);
+  const made = { agent: names[agent], ...placeOf(event.at), code: event.at ? excerpt(event.at) : null, does };
+  if (sources.length) {
+    made.from = sources.map(({ from, to, step: source }) => ({ bytes: sources.length === 1 ? null : [from, to],
+      ...(source ? { agent: names[source.agent], ...placeOf(source.event.at) } : { start: true }) }));
+  }
+  if (does.startsWith('reads')) made.reads = valueText(event, got);
+  if (/writes$/.test(does)) made.writes = valueText(event, written);
+  return made;
+}
+
 class Executions {
-  // `why` gives what jslit-why says of a text with these words; `places` tells where lines are.
-  constructor(name, program, trees, places, why) {
-    Object.assign(this, { name, program, trees, places, why, names: trees.list.map((tree) => tree.name) });
+  // `why` gives what jslit-why says of a text with these words; `asKnown` where something stands, as the user knows it.
+  constructor(name, program, trees, asKnown, why) {
+    Object.assign(this, { name, program, trees, asKnown, why, names: trees.list.map((tree) => tree.name) });
   }
 
   data(steps) {
@@ -27,8 +65,7 @@ class Executions {
 
   // The same with the user's own places.
   placed(step) {
-    const own = ({ file, line, ...rest }) =>
-      (file === undefined ? rest : { ...rest, ...(file === null ? { file, line } : this.places.at({ file, line })) });
+    const own = ({ file, line, ...rest }) => (file === undefined ? rest : { ...rest, ...this.asKnown({ file, line }) });
     return { ...own(step), ...(step.from ? { from: step.from.map(own) } : {}) };
   }
 

@@ -4,18 +4,16 @@
 // conflict), and waits and loops that nothing ends; docs/JAVASCRIPT.md has the rules. Values that a read isn't known to have are grown on
 // the way, since an interleaving is a valid execution.
 
-const { isRead, keyOf, overlaps, writtenBy } = require('./run.js');
+const { byteOf, isRead, isSameRange, keyOf, overlaps, writtenBy } = require('./run.js');
 
 const MOST_STATES = 150000;
 
-const byteOf = (value, place) => Math.floor(value / 256 ** place) % 256;
-const isSame = (a, b) => a.first === b.first && a.size === b.size;
 const readOf = ({ agent, event }) => `${agent} ${keyOf(event)} ${event.sc}`;
 const placeIn = (at) => (at ? `${at.file}:${at.line}` : '');
 
 // Accesses of two agents that are in a data race where one of them comes right behind the other.
 const conflict = (a, b) => overlaps(a.event, b.event) && (a.writes || b.writes)
-  && !(a.event.sc && b.event.sc && isSame(a.event, b.event));
+  && !(a.event.sc && b.event.sc && isSameRange(a.event, b.event));
 
 // Where the agent at a node waits to be notified: {cell, at, isTimed}, or null.
 function sleepAt({ event, leaf }) {

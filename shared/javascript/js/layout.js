@@ -2,7 +2,8 @@
 // Where the bytes that the agents access stand in the block of a text, and what their values are there. docs/JAVASCRIPT.md has the
 // rules: initial contents by xor, and a word as one byte.
 
-const { BLOCK_LIMIT } = require('./limits.js');
+const limits = require('../../limits.json');
+const { lineOf } = require('../code.js');
 const { Limit } = require('./refusal.js');
 const { isRead, keyOf } = require('./run.js');
 const { each } = require('./trees.js');
@@ -86,9 +87,9 @@ class Layout {
       at += cluster.bytes;
     }
     this.bytes = Math.max(1, at);
-    if (at > BLOCK_LIMIT) {
+    if (at > limits.block) {
       const [{ nodes }] = [...this.clusters].sort((a, b) => b.bytes - a.bytes);
-      throw new Limit(`the agents read and write ${at} bytes of shared memory, and ${BLOCK_LIMIT} are followed: leave some out, `
+      throw new Limit(`the agents read and write ${at} bytes of shared memory, and ${limits.block} are followed: leave some out, `
         + 'such as these', nodes[0].event.at);
     }
   }
@@ -113,11 +114,9 @@ class Layout {
     const size = cluster.form === 'bytes' ? event.size : 1;
     const at = cluster.form === 'bytes' ? cluster.at + event.first - cluster.from : cluster.at;
     const numbers = values.map((value) => this.number(event, value));
-    if (event.sc) return `Atomics.${method}(${[`U${8 * size}`, at / size, ...numbers].join(', ')})`;
-    if (!event.noTear && size > 1) {
-      return method === 'load' ? `DV.getUint${8 * size}(${at}, true)` : `DV.setUint${8 * size}(${at}, ${numbers[0]}, true)`;
-    }
-    return method === 'load' ? `U${8 * size}[${at / size}]` : `U${8 * size}[${at / size}] = ${numbers[0]}`;
+    const isView = !event.sc && !event.noTear && size > 1;
+    return lineOf({ kind: method, register: null, atomic: event.sc, view: isView ? 'DV' : `U${8 * size}`, bits: 8 * size,
+      place: isView ? at : at / size, values: numbers });
   }
 }
 

@@ -31,6 +31,8 @@ const numberOf = (block) => {
 };
 const nameOf = (array) => Reflect.get(Typed.prototype, Symbol.toStringTag, array);
 
+const integer = (value) => Math.trunc(Number(value)) || 0;
+
 // The bytes of a value as an array of this type stores it: numbers of at most four bytes, lowest first.
 const bitsOf = (Real, value) => {
   const one = new Real(1);
@@ -106,22 +108,21 @@ const shared = (array) => {
   return proxy;
 };
 
-const integer = (value) => Math.trunc(Number(value)) || 0;
 const clamp = (value, length) => (value < 0 ? Math.max(0, length + value) : Math.min(value, length));
+// Where a part of an array begins and ends, as these arguments say it.
+const rangeOf = ({ length }, begin, end) => [clamp(integer(begin), length), end === undefined ? length : clamp(integer(end), length)];
 const itself = (view) => views.get(view) ?? host.refuse('a method of a view of shared memory is called on something else');
 const methods = {
   subarray(begin, end) {
     const array = itself(this);
-    const from = clamp(integer(begin), array.length);
-    const to = end === undefined ? array.length : clamp(integer(end), array.length);
+    const [from, to] = rangeOf(array, begin, end);
     return new this.constructor(array.buffer, array.byteOffset + from * array.BYTES_PER_ELEMENT, Math.max(0, to - from));
   },
   fill(value, begin, end) {
     const array = itself(this);
     const { Real } = elementAt(array, 0);
     const made = /^Big/.test(Real.name) ? BigInt(value) : Number(value);
-    const from = clamp(integer(begin), array.length);
-    const to = end === undefined ? array.length : clamp(integer(end), array.length);
+    const [from, to] = rangeOf(array, begin, end);
     for (let index = from; index < to; index += 1) write(array, index, made);
     return this;
   },
@@ -189,7 +190,7 @@ Block.prototype.grow = { grow: () => host.refuse('a block that grows isn\'t foll
 
 // DataView: the range is the engine's to check, by a read that tells nothing.
 const index = (value) => {
-  const whole = Math.trunc(Number(value)) || 0;
+  const whole = integer(value);
   if (whole < 0 || whole > Number.MAX_SAFE_INTEGER) throw new RangeError('Offset is outside the bounds of the DataView');
   return whole;
 };
@@ -227,10 +228,6 @@ for (const type of TYPES) {
 
 // Atomics: the engine checks type and index, on the real array; arrays that aren't shared are left to it.
 const real = { ...Object.fromEntries(Object.getOwnPropertyNames(Atomics).map((name) => [name, Atomics[name]])) };
-const whole = (value) => {
-  const number = Number(value);
-  return Number.isNaN(number) || number === 0 ? 0 : Math.trunc(number);
-};
 const placeOf = (array, given, isWaited) => {
   if (isWaited && !/^(Int32|BigInt64)Array$/.test(nameOf(array))) real.wait(array, 0, 0, 0);
   real.load(array, 0 < array.length ? 0 : given);
@@ -248,22 +245,22 @@ const followed = {
   },
   store(array, place, value) {
     const { Real, at } = placeOf(array, place);
-    const made = whole(value);
+    const made = integer(value);
     host.access({ op: 'write', ...at, value: bitsOf(Real, made)[0] });
     return made;
   },
   exchange(array, place, value) {
     const { Real, at } = placeOf(array, place);
-    return valueOf(Real, [host.access({ op: 'exchange', ...at, value: bitsOf(Real, whole(value))[0] })]);
+    return valueOf(Real, [host.access({ op: 'exchange', ...at, value: bitsOf(Real, integer(value))[0] })]);
   },
   compareExchange(array, place, expected, value) {
     const { Real, at } = placeOf(array, place);
-    const [wanted] = bitsOf(Real, whole(expected));
-    return valueOf(Real, [host.access({ op: 'cas', ...at, expected: wanted, value: bitsOf(Real, whole(value))[0] })]);
+    const [wanted] = bitsOf(Real, integer(expected));
+    return valueOf(Real, [host.access({ op: 'cas', ...at, expected: wanted, value: bitsOf(Real, integer(value))[0] })]);
   },
   wait(array, place, value, timeout) {
     const { Real, at } = placeOf(array, place, true);
-    const [expected] = bitsOf(Real, whole(value) | 0);
+    const [expected] = bitsOf(Real, integer(value) | 0);
     const limit = Number(timeout);
     if (host.access({ op: 'read', ...at }) !== expected) return 'not-equal';
     const isTimed = timeout !== undefined && !Number.isNaN(limit) && limit !== Infinity;
@@ -273,14 +270,14 @@ const followed = {
   },
   notify(array, place, count) {
     const { at } = placeOf(array, place, true);
-    host.notify(at, count === undefined ? Infinity : Math.max(0, whole(count)));
+    host.notify(at, count === undefined ? Infinity : Math.max(0, integer(count)));
     return undefined;   // nobody looks at it: `instrument` refuses that
   },
 };
 for (const [name, operation] of Object.entries(OPERATIONS)) {
   followed[name] = (array, place, value) => {
     const { Real, at } = placeOf(array, place);
-    const [operand] = bitsOf(Real, whole(value));
+    const [operand] = bitsOf(Real, integer(value));
     const most = 2 ** (8 * at.size);
     const next = (seen) => (((operation(seen, operand) % most) + most) % most);
     return valueOf(Real, [host.access({ op: 'modify', ...at, next })]);

@@ -16,6 +16,8 @@ class Ends extends Error {}   // a run ends here, whatever the code would do nex
 
 const isRead = (op) => op !== 'write';
 const keyOf = ({ block, first, size }) => `${block} ${first} ${size}`;
+const isSameRange = (a, b) => a.first === b.first && a.size === b.size;
+const byteOf = (value, place) => Math.floor(value / 256 ** place) % 256;
 const overlaps = (a, b) => a.block === b.block && a.first < b.first + b.size && b.first < a.first + a.size;
 
 // Where the innermost code of the user's files stands in a stack, or null; what `Function` made stands in no file.
@@ -369,4 +371,4 @@ class Run {
   }
 }
 
-module.exports = { Ends, MOST, Room, Run, isRead, keyOf, overlaps, writtenBy };
+module.exports = { Room, Run, byteOf, isRead, isSameRange, keyOf, overlaps, writtenBy };

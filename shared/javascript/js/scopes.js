@@ -41,7 +41,6 @@ class Scopes {
   constructor(tree) {
     this.of = new Map();
     this.uses = [];
-    this.declarations = new Map();   // scope -> name -> how often it is declared there
     this.enter(tree, null);
     this.uses.forEach((use) => { use.declared = use.scope.find(use.name); });
   }
@@ -93,16 +92,6 @@ class Scopes {
       }
     }
     return found;
-  }
-
-  // The scope around a node, by its place in the text.
-  around(node) {
-    let best = null;
-    for (const scope of this.of.values()) {
-      const inside = scope.node.start <= node.start && scope.node.end >= node.end && scope.node !== node;
-      if (inside && (best === null || scope.node.end - scope.node.start <= best.node.end - best.node.start)) best = scope;
-    }
-    return best;
   }
 }
 

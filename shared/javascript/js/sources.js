@@ -2,10 +2,17 @@
 // The files of a program as its user knows them; the harness stands behind the main one, from line `harness.from` on.
 
 const { plain } = require('../lines.js');
-const { Places } = require('./places.js');
 const { Printer } = require('./print.js');
 
 const CODE = 56;   // characters of a line of code that are shown
+
+// Gives where something stands, as the user knows it: the harness stands behind the main file, from its line `from` on.
+const placesOf = (main, harness) => (at) => {
+  if (!at?.file) return { file: null, line: null };
+  const { file, line } = at;
+  const isHarness = line !== null && file === main && harness && line >= harness.from;
+  return isHarness ? { file: harness.name, line: line - harness.from + 1 } : { file, line };
+};
 
 class Sources {
   // Texts by their names, the main one first; `use` is a harness, {name, text}, or null.
@@ -27,7 +34,7 @@ class Sources {
   }
 
   at(at) {
-    return at?.file ? new Places(this.main, this.harness).at(at) : { file: null, line: null };
+    return placesOf(this.main, this.harness)(at);
   }
 
   // Where something is, as the user knows it.
@@ -63,4 +70,4 @@ class Sources {
   }
 }
 
-module.exports = { Sources };
+module.exports = { Sources, placesOf };

@@ -142,4 +142,4 @@ class Looking {
   }
 }
 
-module.exports = { States };
+module.exports = { GLOBALS, States };

@@ -2,9 +2,9 @@
 // Trees as litmus texts, split where one text would be past the program's limits, and the ways through the trees that the registers
 // of an outcome tell.
 
-const { AGENT_LIMIT, COMBINATION_LIMIT, ACCESS_LIMIT, IF_LIMIT, REGISTERS, TEXT_LIMIT } = require('./limits.js');
+const limits = require('../../limits.json');
 const { Limit, Refusal, busiest } = require('./refusal.js');
-const { each, tooManyReads } = require('./trees.js');
+const { tooManyReads } = require('./trees.js');
 
 const MOST_TEXTS = 4000;
 
@@ -193,7 +193,7 @@ function longest(node, isIn) {
 function tooLong(list, measures) {
   const each = measures.map(({ accesses }, place) => `${list[place].name} ${accesses}`).join(', ');
   const { at, times } = busiest(measures.flatMap(({ events }) => events));
-  return new Limit(`the agents make more than ${ACCESS_LIMIT} accesses together (${each}), this line ${times} of them: `
+  return new Limit(`the agents make more than ${limits.accesses} accesses together (${each}), this line ${times} of them: `
     + 'take fewer agents, turns or accesses', at);
 }
 
@@ -204,14 +204,16 @@ function seeAccesses({ list }, layout) {
     const events = longest(root, (event) => event.op !== 'choice' && !layout.isLeftOut(event) && !wakes.isBeyond(event, name));
     return { accesses: events.length, events };
   });
-  if (measures.reduce((sum, { accesses }) => sum + accesses, 0) > ACCESS_LIMIT) throw tooLong(list, measures);
+  if (measures.reduce((sum, { accesses }) => sum + accesses, 0) > limits.accesses) throw tooLong(list, measures);
 }
 
 class Texts {
   constructor(name, trees, layout) {
     Object.assign(this, { name, trees, layout, wakes: new Wakes(trees.list), made: [] });
-    if (trees.list.length > AGENT_LIMIT) throw new Refusal(
-      `${trees.list.length} agents are started, and ${AGENT_LIMIT} are followed: start fewer`, trees.list[AGENT_LIMIT].role?.at ?? null);
+    const { length } = trees.list;
+    const { agents: most } = limits;
+    const at = trees.list[most]?.role?.at ?? null;
+    if (length > most) throw new Refusal(`${length} agents are started, and ${most} are followed: start fewer`, at);
     this.split(new Part());
   }
 
@@ -235,19 +237,19 @@ class Texts {
     const worst = (of) => measures.map((_, place) => place).sort((a, b) => of(b) - of(a));
     const first = (places) => places.map((place) => widest(list[place].root, part)).find(Boolean);
     for (const [place, writer] of writers.entries()) {
-      if (writer.registers > REGISTERS) {
+      if (writer.registers > limits.registers) {
         if (writer.modifies) return writer.modifies;
         throw tooManyReads(list[place].name, writer.last.at);
       }
-      if (measures[place].depth > IF_LIMIT) return find(place);
+      if (measures[place].depth > limits.ifs) return find(place);
     }
-    if (measures.reduce((sum, { accesses }) => sum + accesses, 0) > ACCESS_LIMIT) {
+    if (measures.reduce((sum, { accesses }) => sum + accesses, 0) > limits.accesses) {
       const node = writers.find((writer) => writer.modifies)?.modifies ?? first(worst(({ accesses }) => accesses));
       if (node) return node;
       throw tooLong(list, measures);
     }
-    if (measures.reduce((all, { paths }) => all * paths, 1) > COMBINATION_LIMIT
-      || text.length > TEXT_LIMIT) return first(worst((place) => measures[place].paths));
+    if (measures.reduce((all, { paths }) => all * paths, 1) > limits.combinations
+      || text.length > limits.text) return first(worst((place) => measures[place].paths));
     return null;
   }
 
@@ -291,4 +293,4 @@ function walk(tree, layout, wakes, part, registers) {
   }
 }
 
-module.exports = { Part, Texts, Writer, each, linesOf, seeAccesses, walk };
+module.exports = { Part, Texts, Writer, linesOf, seeAccesses, walk };

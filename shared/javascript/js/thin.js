@@ -5,7 +5,7 @@
 // agent that it may give a byte to, and so back. Any accesses whose ranges share a byte may be in a ring, but one whose every read
 // synchronizes, so of atomics of equal range, is a cycle in happens-before.
 
-const { isRead, keyOf, overlaps, writtenBy } = require('./run.js');
+const { byteOf, isRead, isSameRange, keyOf, overlaps, writtenBy } = require('./run.js');
 const { Refusal } = require('./refusal.js');
 const { unknownIn } = require('./trees.js');
 
@@ -15,10 +15,8 @@ const MOST_VALUES = 8;        // that are tried at one read
 const MOST_STEPS = 200000;    // along rings
 const PROBES = [0x5b, 0x6d];   // stand for all that the source doesn't name
 
-const byteOf = (value, place) => Math.floor(value / 256 ** place) % 256;
 const cut = (value, size) => ((Math.trunc(value) % 256 ** size) + 256 ** size) % 256 ** size;
-const isSame = (a, b) => a.first === b.first && a.size === b.size;
-const synchronizes = (write, read) => write.sc && read.sc && isSame(write, read);
+const synchronizes = (write, read) => write.sc && read.sc && isSameRange(write, read);
 
 // Reads as nodes of a graph: {agent, event, value, writes (what its agent writes from there on), path}. `path` are the values that
 // lead to a read whose value isn't known there; it is null of the others.
@@ -132,7 +130,7 @@ class Reads {
       const isInitial = byte === this.setting.initial(read.block, place);
       every &&= isGiven;
       some ||= isGiven && !isInitial;
-      if (isSame(write, read) && write.noTear && read.noTear && !isGiven && !isInitial) return false;
+      if (isSameRange(write, read) && write.noTear && read.noTear && !isGiven && !isInitial) return false;
     }
     return every || some;
   }

@@ -5,8 +5,8 @@
 const { vm } = require('./host.js');
 const { instrument } = require('./instrument.js');
 const { Limit, Refusal } = require('./refusal.js');
-const { REGISTERS } = require('./limits.js');
-const { Room, Run, isRead, keyOf, overlaps, writtenBy } = require('./run.js');
+const limits = require('../../limits.json');
+const { Room, Run, byteOf, isRead, keyOf, overlaps, writtenBy } = require('./run.js');
 
 const MOST_RUNS = 1200;
 
@@ -115,7 +115,7 @@ function valueAfter(setting, read, writes) {
   for (const { event, written } of writes.filter((write) => write.written !== null && overlaps(write.event, read))) {
     for (let place = 0; place < event.size; place += 1) {
       const at = event.first + place - read.first;
-      if (at >= 0 && at < read.size) bytes[at] = Math.floor(written / 256 ** place) % 256;
+      if (at >= 0 && at < read.size) bytes[at] = byteOf(written, place);
     }
   }
   return bytes.reduceRight((value, byte) => value * 256 + byte, 0);
@@ -133,11 +133,11 @@ function aloneIn(setting) {
 function seeAlone({ program, role, setting, name }) {
   const { events } = new Run(program, role, [], { ...setting, answer: aloneIn(setting) }).go();
   const reads = events.filter(({ op }) => isRead(op) && op !== 'choice');
-  if (reads.length > REGISTERS) throw tooManyReads(name, reads[REGISTERS].at);
+  if (reads.length > limits.registers) throw tooManyReads(name, reads[limits.registers].at);
 }
 
 function tooManyReads(name, at) {
-  return new Limit(`the agent ${name} reads more than ${REGISTERS} values on one way, one more here: take fewer turns, `
+  return new Limit(`the agent ${name} reads more than ${limits.registers} values on one way, one more here: take fewer turns, `
     + 'or a part of it', at);
 }
 
@@ -220,4 +220,4 @@ function unknownIn(tree, valuesAt) {
   return found;
 }
 
-module.exports = { Program, Tree, each, plant, tooManyReads, unknownIn, valueAfter };
+module.exports = { Program, each, plant, tooManyReads, unknownIn, valueAfter };

@@ -7,10 +7,12 @@ const { Execution } = require('../executions/execution.js');
 const scenes = require('../executions/scenes.js');
 const { tornNotes } = require('../executions/torn.js');
 const { Failure, Fault } = require('../lines.js');
+const { VALUES, valuesIn } = require('../report.js');
 const { more, printedOf } = require('../text/faults.js');
 const { codeOf } = require('../text/forms.js');
 const { notesOf } = require('../text/notes.js');
 const { advice } = require('../text/refusals.js');
+const { meetsOf } = require('../text/tests.js');
 
 const MEBIBYTES = 512;   // how much memory the programs may have
 const PART = 1000;       // how many outcomes of a report an answer has
@@ -75,19 +77,11 @@ async function answerTorn(question, { outcomes }) {
 // The condition as the text has it, behind `check`.
 const conditionOf = (text) => codeOf(text.split('\n').find((line) => /^\s*check\b/.test(line))).trim().slice('check'.length).trim();
 
-// Whether an outcome with these values, by register, meets a condition of a test.
-function meets(condition, values) {
-  if (condition.all) return condition.all.every((each) => meets(each, values));
-  if (condition.any) return condition.any.some((each) => meets(each, values));
-  if (condition.not) return !meets(condition.not, values);
-  const { agent, register, equal, number } = condition;
-  return (values.get(`${agent}.r${register}`) === number) === equal;
-}
-
 async function told(kind, question, report) {
   if (report.other.refused) return refused(question, report.other.refused);
   const { test } = await question.tell();
-  const outcomes = report.outcomes.map((outcome) => ({ ...outcome, meets: meets(test.condition, new Map(outcome.values)) }));
+  const meets = meetsOf(test);
+  const outcomes = report.outcomes.map((outcome) => ({ ...outcome, meets: meets(outcome.values.map(([, value]) => value)) }));
   return { kind, condition: conditionOf(question.text), ...report.other, notes: notesOf(question.text, test), outcomes };
 }
 
@@ -138,12 +132,7 @@ const answerWhy = (question, { unmet }) => pictured(question, (ask, text, test) 
 const answerRace = (question) => pictured(question, scenes.race);
 
 // What the exploring of JavaScript asks of a text: the values of all outcomes, or the number of a refusal.
-async function answerValues(question) {
-  const { registers, outcomes, other } = await question.report([], { most: Infinity });
-  if (other.refused) return { kind: 'values', refused: Number(other.refused.split(' ')[1]) };
-  const values = outcomes.map((outcome) => outcome.values.map(([, value]) => value));
-  return { kind: 'values', registers, outcomes: values, race: other.race === 'yes' };
-}
+const answerValues = async (question) => ({ kind: 'values', ...valuesIn(await question.report([], VALUES)) });
 
 // The same of an execution, with these sources or any: what jslit-why says.
 async function answerExecution(question, { sources }) {

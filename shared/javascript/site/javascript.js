@@ -4,7 +4,7 @@
 
 const { ask, rest, stop } = require('./ask.js');
 const { make } = require('./make.js');
-const { limits } = require('../limits.js');
+const limits = require('../../limits.json');
 const { signsOf } = require('../signs.js');
 
 const SECONDS = 120;      // for an answer

@@ -11,7 +11,7 @@ const { hideProgram, runProgram, stopProgram } = require('./program.js');
 const { savePng, saveSvg, saveText } = require('./save.js');
 const { setOutcomes, spoken } = require('./table.js');
 const { newText } = require('./turns.js');
-const { limits } = require('../limits.js');
+const limits = require('../../limits.json');
 const { signsOf } = require('../signs.js');
 const { linesOf, say, sayRacing, sayStopped, sayVerdict } = require('./verdict.js');
 
@@ -29,12 +29,8 @@ function running(is) {
 function hideOutcomes() {
   for (const name of ['picture', 'save', 'racing', 'torn']) stop(name);
   told = null;
-  byId('stale').hidden = true;
-  byId('notes').hidden = true;
+  for (const name of ['stale', 'notes', 'outcomes', 'example', 'program-stale']) byId(name).hidden = true;
   byId('saved').textContent = '';
-  byId('outcomes').hidden = true;
-  byId('example').hidden = true;
-  byId('program-stale').hidden = true;
   hideProgram();
 }
 
@@ -141,7 +137,7 @@ async function draw(title, name, kind, words, lines = null) {
   const picture = await ask('picture', kind, words, asked);
   if (!picture) return;
   byId('picture').setAttribute('aria-busy', 'false');
-  for (const name of ['save-svg', 'save-png']) byId(name).disabled = picture.kind !== 'picture';
+  for (const each of ['save-svg', 'save-png']) byId(each).disabled = picture.kind !== 'picture';
   if (picture.kind === 'picture') {
     showPicture(picture, title);
     byId('lines').textContent = lines ?? picture.lines.join('\n');

@@ -86,4 +86,4 @@ function savePng(name) {
   });
 }
 
-module.exports = { saveBlob, savePng, saveSvg, saveText };
+module.exports = { savePng, saveSvg, saveText };

@@ -4,7 +4,7 @@
 // the name may be another one for their bytes.
 
 const { codeOf } = require('./forms.js');
-const { limits } = require('../limits.js');
+const limits = require('../../limits.json');
 
 const WIDE = '\\b(?:[UuIiFfB]64|B[UI]64|[Uu]?[Ii]nt64|[Ff]32|[Ff]loat(?:16|32|64)|[Bb]ig(?:U?[Ii]nt)?(?:64)?)(?:Array)?\\b';
 const KNOWN = /^(?:DV|Atomics|check|if|r[0-7]|[iu](?:8|16|32)|[UI](?:8|16|32|8C)|U?[iI]nt(?:8|16|32)(?:Array)?|ui(?:8|16|32)|Uint8ClampedArray)$/;

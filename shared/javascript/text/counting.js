@@ -1,7 +1,7 @@
 'use strict';
 // What makes a test too large: its accesses, its paths and its choices, counted from the test as the program tells it.
 
-const { limits } = require('../limits.js');
+const limits = require('../../limits.json');
 const { decides, inits, isIf, walks } = require('./tests.js');
 
 const product = (numbers) => numbers.reduce((all, each) => all * each, 1n);

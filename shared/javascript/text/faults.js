@@ -7,7 +7,7 @@ const { codeOf, linesOf } = require('./forms.js');
 const { advice, foreign } = require('./refusals.js');
 const { Scene } = require('./scene.js');
 const { Place } = require('./slips.js');
-const { limits } = require('../limits.js');
+const limits = require('../../limits.json');
 
 const MOST = 12;
 const ALONE = [2, 3, 5, 8];  // the kinds that hang on no other line

@@ -2,7 +2,7 @@
 // Lines of a text that the program refuses, held against the forms of a line, docs/FORMAT.md: which token can't stand, and what could.
 // This is the one module that knows these forms beside the program. A text is a string with a character for each byte.
 
-const { limits } = require('../limits.js');
+const limits = require('../../limits.json');
 
 const PIECE = /([A-Za-z_][A-Za-z0-9_]*)|([0-9]+)|(==|!=|&&|\|\||[=!\[\](){},.])|([\t\r ]+)|([^])/g;
 const END = 'the end of the line';

@@ -6,7 +6,7 @@ const { paths } = require('./counting.js');
 const { codeOf, linesOf } = require('./forms.js');
 const { branchesOf, comparisonsOf, eventsOf, storedBy } = require('./tests.js');
 const { unread } = require('./unread.js');
-const { limits } = require('../limits.js');
+const limits = require('../../limits.json');
 
 const MOST = 3;  // pairs of accesses that are told one by one
 

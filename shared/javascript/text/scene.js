@@ -4,7 +4,7 @@
 
 const { codeOf } = require('./forms.js');
 const { Cells } = require('./cells.js');
-const { limits } = require('../limits.js');
+const limits = require('../../limits.json');
 
 const HEAD = /^\s*(?:(?:agent|thread|worker|process|proc|cpu)\s+(\w+)|P(\d+)\b)/i;
 const QUESTION = new RegExp('^(?:~\\s*exists|exists|forall|never|always|sometimes|assert|expect|condition|final|check|Check|CHECK|allowed'
@@ -109,4 +109,4 @@ class Scene {
   }
 }
 
-module.exports = { QUESTION, Scene, agentOf };
+module.exports = { QUESTION, Scene };

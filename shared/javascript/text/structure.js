@@ -3,7 +3,7 @@
 // text and the number of the line at fault, and gives the column of the token that can't stand, or null, and what to do.
 
 const { codeOf, tokensOf } = require('./forms.js');
-const { limits } = require('../limits.js');
+const limits = require('../../limits.json');
 const { signsOf, spelled } = require('../signs.js');
 
 const wordsOf = (line) => tokensOf(line).map(({ text }) => text);

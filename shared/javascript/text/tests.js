@@ -10,6 +10,8 @@ const branchesOf = (statements) => statements.flatMap((each) => (
 // Each register that an agent writes, as [agent's number, register]: agents in order, registers by number.
 const registersOf = (test) => test.agents.flatMap(({ registers }, agent) => registers.map((register) => [agent, register]));
 
+const namesOf = (test) => registersOf(test).map(([agent, register]) => `${test.agents[agent].name}.r${register}`);
+
 // Whether an access may write or not, by what it reads.
 const decides = ({ values }) => values.length === 2;
 
@@ -49,8 +51,24 @@ function walks(statements) {
   return waysOf().flatMap((way) => after.map((walk) => [...way, ...walk]));
 }
 
+// Whether a condition holds, as `holds` says it of each of its comparisons.
+function meets(condition, holds) {
+  if (condition.all) return condition.all.every((each) => meets(each, holds));
+  if (condition.any) return condition.any.some((each) => meets(each, holds));
+  return condition.not ? !meets(condition.not, holds) : holds(condition);
+}
+
+// Gives whether an outcome with these values, of the registers in their order, meets the condition of a test.
+function meetsOf(test) {
+  const names = namesOf(test);
+  return (values) => meets(test.condition, ({ agent, register, equal, number }) => (
+    (values[names.indexOf(`${agent}.r${register}`)] === number) === equal));
+}
+
 // The comparisons of a condition.
 const comparisonsOf = (condition) => (condition.not ? comparisonsOf(condition.not)
   : (condition.all ?? condition.any)?.flatMap(comparisonsOf) ?? [condition]);
 
-module.exports = { accessesOf, branchesOf, comparisonsOf, decides, eventsOf, inits, isIf, registersOf, storedBy, walks };
+module.exports = {
+  accessesOf, branchesOf, comparisonsOf, decides, eventsOf, inits, isIf, meets, meetsOf, namesOf, registersOf, storedBy, walks,
+};

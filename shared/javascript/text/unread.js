@@ -2,7 +2,7 @@
 // Notes on comparisons in the condition that hold since their register is 0 where a path of its agent never reads into it. There is none
 // where the condition's answer on such a path doesn't hang on the comparison, as behind a guard.
 
-const { comparisonsOf, eventsOf, walks } = require('./tests.js');
+const { comparisonsOf, eventsOf, meets, walks } = require('./tests.js');
 
 const MOST = 8;         // comparisons of which nothing is known
 const MILLISECONDS = 1000;  // for the paths of a test
@@ -41,12 +41,7 @@ class Known {
 const keyOf = ({ agent, register, number }) => `${agent}.${register} ${number}`;
 
 // Whether a condition holds where its comparisons answer so, for whether register and number are equal.
-function holdsBy(condition, answers) {
-  if (condition.all) return condition.all.every((each) => holdsBy(each, answers));
-  if (condition.any) return condition.any.some((each) => holdsBy(each, answers));
-  if (condition.not) return !holdsBy(condition.not, answers);
-  return answers.get(keyOf(condition)) === condition.equal;
-}
+const holdsBy = (condition, answers) => meets(condition, (each) => answers.get(keyOf(each)) === each.equal);
 
 const distinct = (comparisons) => [...new Map(comparisons.map((each) => [keyOf(each), each])).values()];
 

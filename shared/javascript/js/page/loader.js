@@ -1,6 +1,6 @@
 'use strict';
-// In the page's worker, as a function of the sources of all modules: takes the port that leads to the page, leaves nothing of the browser
-// in the worker but what ECMAScript has, and then loads the modules. The port stays in here.
+// In the page's worker, as a function of all modules, each with its source and the places of those that it asks for: takes the port that
+// leads to the page, leaves nothing of the browser in the worker but what ECMAScript has, and then loads the modules. The port stays here.
 
 const KEPT = `AggregateError Array ArrayBuffer Atomics BigInt BigInt64Array BigUint64Array Boolean DataView Date Error EvalError
   FinalizationRegistry Float32Array Float64Array Function Int16Array Int32Array Int8Array Intl Iterator JSON Map Math Number Object Promise
@@ -37,7 +37,8 @@ function close() {
   Object.defineProperty(scope, 'SharedArrayBuffer', { value: Block, writable: true, configurable: true });
 }
 
-// Modules as Node has them. Each has the objects of ECMAScript as they were first, whatever stands in the global ones later.
+// Modules as Node has them; a package goes by its name. Each has the objects of ECMAScript as they were first, whatever stands in the
+// global ones later.
 function loaderOf(sources) {
   const modules = new Map();
   const names = KEPT.filter((name) => name in scope);
@@ -47,30 +48,19 @@ function loaderOf(sources) {
     if (modules.has(place)) return modules.get(place).exports;
     const module = { exports: {} };
     modules.set(place, module);
-    if (place.endsWith('.json')) module.exports = JSON.parse(sources[place]);
-    else new Made('require', 'module', 'exports', ...names, `${sources[place]}\n//# sourceURL=jslit:${place}`)(
-      (name) => load(placeOf(name, place)), module, module.exports, ...values);
+    const { source, places } = sources[place];
+    if (place.endsWith('.json')) module.exports = JSON.parse(source);
+    else new Made('require', 'module', 'exports', ...names, `${source}\n//# sourceURL=jslit:${place}`)(
+      (name) => load(places[name] ?? name), module, module.exports, ...values);
     return module.exports;
   };
   return load;
-}
-
-// Where a module stands that another one asks for: of `host.js` there is one of the page.
-function placeOf(name, from) {
-  if (!name.startsWith('.')) return name;
-  const way = from.split('/').slice(0, -1);
-  for (const step of name.split('/')) {
-    if (step === '..') way.pop();
-    else if (step !== '.') way.push(step);
-  }
-  const place = way.join('/');
-  return place === `${JS}/host.js` ? `${JS}/page/host.js` : place;
 }
 
 scope.onmessage = ({ ports: [port] }) => {
   const channel = channelOf(port);
   close();
   const load = loaderOf(sources);
-  load(`${JS}/page/host.js`).begin(channel, sources[`${JS}/memory.js`]);
+  load(`${JS}/page/host.js`).begin(channel, sources[`${JS}/memory.js`].source);
   load(`${JS}/page/worker.js`).begin(channel);
 };

@@ -3,15 +3,17 @@
 
 const fs = require('fs');
 const path = require('path');
+const { JSLIT, TOP } = require('../../command.js');
 const { runOf } = require('../../running.js');
 const { answerOf, checkIn } = require('../answer.js');
-const { JSLIT, WHY: WHY_HERE, reportOf } = require('../asking.js');
+const { reportOf } = require('../asking.js');
 const { Exploring } = require('../explore.js');
 const { Limit, Refusal } = require('../refusal.js');
-const { Run, isRead, keyOf } = require('../run.js');
+const { Run, isRead } = require('../run.js');
 const { Program, plant } = require('../trees.js');
+const { writtenBy } = require('./model.js');
 
-const WHY = process.env.JSLIT_WHY || WHY_HERE;
+const WHY = process.env.JSLIT_WHY || path.join(TOP, 'bin', 'jslit-why');
 const PROGRAM = process.env.JSLIT || JSLIT;
 const FOLDER = path.join(__dirname, '..', 'samples');
 // The values that a read of a small program may have, and what it chooses of.
@@ -115,8 +117,7 @@ function interleaving({ names, runs, setting }, choose, most = 300) {
     if (!isRead(event.op)) store(event, event.value);
     else {
       const got = event.op === 'choice' ? choose(event.count) : load(event);
-      const written = event.op === 'exchange' || (event.op === 'cas' && got === event.expected) ? event.value : event.op === 'modify'
-        ? event.next(got) : null;
+      const written = writtenBy({ ...event, got });
       if (written !== null) store(event, written);
       agent.values.push(got);
       agent.last = agent.run(agent.values);
@@ -157,6 +158,6 @@ function randomOf(seed) {
 }
 
 module.exports = {
-  SAMPLES, agentsOf, answered, answeredIfTaken, answeredInTurn, ask, askWhy, domain, everyInterleaving, interleaving, keyOf, programOf,
+  SAMPLES, agentsOf, answered, answeredIfTaken, answeredInTurn, ask, askWhy, domain, everyInterleaving, interleaving, programOf,
   randomOf, tellOf, textsOf,
 };

@@ -3,9 +3,9 @@
 // may have two combinations of paths alone, beside the model by brute force over all these values. A data race that is told is one
 // of the model's.
 
-const limits = require('../limits.js');
+const limits = require('../../../limits.json');
 
-limits.COMBINATION_LIMIT = 2;
+limits.combinations = 2;
 
 const test = require('node:test');
 const assert = require('node:assert');

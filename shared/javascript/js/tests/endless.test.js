@@ -6,7 +6,7 @@ const test = require('node:test');
 const assert = require('node:assert');
 const { agentsOf, programOf, randomOf } = require('./asking.js');
 const { Interleavings } = require('../interleavings.js');
-const { writtenBy } = require('../run.js');
+const { writtenBy } = require('./model.js');
 const { plant } = require('../trees.js');
 
 const HEAD = 'const m = new Int32Array(new SharedArrayBuffer(16));\n';

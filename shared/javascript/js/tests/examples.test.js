@@ -7,7 +7,7 @@ const assert = require('node:assert');
 const { SAMPLES, agentsOf, answeredIfTaken, askWhy, randomOf, tellOf } = require('./asking.js');
 const { Execution } = require('./model.js');
 const { Details } = require('../details.js');
-const { Places } = require('../places.js');
+const { placesOf } = require('../sources.js');
 
 const COUNT = Number(process.env.JSLIT_RANDOM || 40);
 const LOOKED_AT = ['dekker', 'mailbox', 'initial', 'getter', 'tas-lock', 'seqlock'];
@@ -55,7 +55,7 @@ function followed(steps, { names, runs, setting }, isWhole) {
 async function look(source, main = 'main.js') {
   const answer = await answeredIfTaken(source, main);
   if (answer === null) return { examples: 0, races: 0 };
-  const details = new Details(answer, { program: answer.program, name: 'it', answer, places: new Places(main, null),
+  const details = new Details(answer, { program: answer.program, name: 'it', answer, asKnown: placesOf(main, null),
     asking: { ask: askWhy }, asked: null });
   const agents = agentsOf(source, false, main);
   const tell = tellOf(agents.names);

@@ -2,7 +2,7 @@
 // The memory model by brute force, for small programs: every way through the agents' trees, every source of every byte, every
 // memory-order, each looked at by the clauses. It shares nothing with texts, layouts or the program.
 
-const { keyOf, isRead } = require('../run.js');
+const { isRead } = require('../run.js');
 
 const at = (event, byte) => event.first <= byte && byte < event.first + event.size;
 const isSame = (a, b) => a.block === b.block && a.first === b.first && a.size === b.size;
@@ -200,4 +200,4 @@ function isRacingInLine(ways, line, initial) {
   return execution.isRacing(sources);
 }
 
-module.exports = { Execution, hasInterleavedRace, hasRace, keyOf, outcomesOf };
+module.exports = { Execution, hasInterleavedRace, hasRace, outcomesOf, writtenBy };
