@@ -5,6 +5,7 @@
 const fs = require('fs');
 const path = require('path');
 const { TOP, run } = require('./command.js');
+const { Failure, plain } = require('./lines.js');
 const { readOptions } = require('./options.js');
 const { builtProgram, namedProgram } = require('./programs.js');
 const { FIELDS, Runs, printedName, spoken, write } = require('./runs.js');
@@ -86,6 +87,7 @@ async function main(given) {
   if (words.notes) await builtProgram('jslit-why');
   const isStated = words.strict || words.paths.length === 0;
   const runs = new Runs(program, words.limit, { isStated, records: words.record, notes: words.notes });
+  if (words.junit?.endsWith('.lit')) throw new Failure(2, `--junit ${plain(words.junit)}: that would overwrite a test`);
   const junit = words.junit ? new Junit(words.junit) : null;
   const paths = words.paths.length ? words.paths : [path.join(TOP, 'litmus')];
   return told(runs.results(filesIn(paths), words.jobs), words, junit);
