@@ -1,5 +1,5 @@
-//! The search of all choices by the thread that calls, given up after some steps, before workers share the choices: what ends sooner
-//! mostly takes several workers longer, since each piece is searched for its outcomes anew (decision 63).
+//! The search of all choices by the thread that calls, given up after some steps, before any worker begins: what ends sooner isn't worth
+//! threads, and a worker that looks for a data race can't be ended by another (decision 63).
 
 ghost use Rattle.std.specs.Prelude.{length, IfSome};
 ghost use Rattle.lit_paths.specs.Choice.{choices_of};
@@ -11,7 +11,7 @@ use std::alloc::{AllocError, Global};
 use std::sync::atomic::{AtomicU64, Ordering};
 
 /// How many steps down the search may make: some milliseconds, or tens of them where each propagates.
-const FEW_STEPS: u64 = 10_000;
+const FEW_STEPS: u64 = 4_000;
 
 /// A heartbeat that ends a search after a few steps.
 #[derive(Drop)]
