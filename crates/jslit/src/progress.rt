@@ -2,7 +2,6 @@
 
 use crate::watch::Watch;
 use lit_share::Gate;
-use std::alloc::AllocError;
 use std::io::Write;
 use std::rt::Clock;
 use std::sync::Mutex;
@@ -78,11 +77,10 @@ impl<C: Clock + Sync, E: Write + Send + Drop> Gate for Progress<'_, C, E> {
         self.show();
     }
 
-    fn alive(&self) -> Result<(), AllocError> {
+    fn alive(&self) {
         if self.beats.fetch_add(1, Ordering::SeqCst) % BEATS == 0 {
             self.show();
         }
-        Ok(())
     }
 }
 

@@ -12,8 +12,8 @@ ghost use Rattle.lit_share.specs.Internal.Workers.{IsReady, HasSearched};
 use crate::fault::ShareFault;
 use crate::gate::Gate;
 use crate::limits::CUT_LIMIT;
-use crate::race::Race;
-use crate::search_worker::work;
+use crate::race::{DrawerBeat, Race};
+use crate::search_worker::work_with;
 use crate::worker::{Worker, workers_at};
 use lit_desk::{Desk, Place};
 use lit_paths::Plan;
@@ -22,16 +22,16 @@ use std::alloc::Global;
 use std::mem;
 use std::thread::{Threads, join_mut};
 
-/// A worker of a search, with the answer of `work`.
+/// A worker of a search, with the answer of `work_with`.
 type Searcher<P> = Worker<P, Result<Found, ShareFault>>;
 
-/// Makes one worker's call of `work`.
+/// Makes one worker's call of `work_with`.
 fn search_one<P: Send + Drop, G: Gate<Pass = P>>(
     alloc: &Global,
     plan: &Plan<'_>,
     cut: &u64,
     desk: &Desk,
-    gate: &G,
+    race: &Race<'_, G>,
     worker: &mut Searcher<P>,
 )
     requires cut { (0 < cut.now) × (cut.now ≤ CUT_LIMIT) }
@@ -40,7 +40,17 @@ fn search_one<P: Send + Drop, G: Gate<Pass = P>>(
     ensures { HasSearched plan.now cut.now desk.now worker.new }
 {
     if let Worker::Ready(number, place, pass) = mem::replace(worker, Worker::Away) {
-        let (place, answer) = work(*alloc, plan, *cut, desk, place, gate, pass, number);
+        let (place, answer) = work_with(
+            *alloc,
+            plan,
+            *cut,
+            desk,
+            place,
+            race,
+            &DrawerBeat { race },
+            pass,
+            number,
+        );
         *worker = Worker::Ended(place, answer);
     }
 }
@@ -53,7 +63,7 @@ fn search_all<R: Threads + Sync, P: Send + Drop, G: Gate<Pass = P>>(
     plan: &Plan<'_>,
     cut: &u64,
     desk: &Desk,
-    gate: &G,
+    race: &Race<'_, G>,
     workers: &mut [Searcher<P>],
 )
     requires cut { (0 < cut.now) × (cut.now ≤ CUT_LIMIT) }
@@ -63,7 +73,7 @@ fn search_all<R: Threads + Sync, P: Send + Drop, G: Gate<Pass = P>>(
     ensures { All (HasSearched plan.now cut.now desk.now) workers.new }
 {
     if workers.len() == 1 {
-        search_one(alloc, plan, cut, desk, gate, &mut workers[0]);
+        search_one(alloc, plan, cut, desk, race, &mut workers[0]);
         return;
     }
     let (front, back) = workers.split_at_mut(workers.len() / 2);
@@ -74,13 +84,13 @@ fn search_all<R: Threads + Sync, P: Send + Drop, G: Gate<Pass = P>>(
                 × (desk.now.pieces ≡ pieces_of (length (choices_of plan.now)) cut.now)
                 × (0 < length front.now) × All (IsReady desk.now) front.now }
             ensures { All (HasSearched plan.entry.now cut.entry.now desk.entry.now) front.exit.now }
-        { search_all(rt, alloc, plan, cut, desk, gate, front) },
+        { search_all(rt, alloc, plan, cut, desk, race, front) },
         &mut ||
             requires { IsSync R.row × (0 < cut.now) × (cut.now ≤ CUT_LIMIT)
                 × (desk.now.pieces ≡ pieces_of (length (choices_of plan.now)) cut.now)
                 × (0 < length back.now) × All (IsReady desk.now) back.now }
             ensures { All (HasSearched plan.entry.now cut.entry.now desk.entry.now) back.exit.now }
-        { search_all(rt, alloc, plan, cut, desk, gate, back) },
+        { search_all(rt, alloc, plan, cut, desk, race, back) },
     );
 }
 

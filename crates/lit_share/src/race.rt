@@ -48,16 +48,6 @@ impl<'a, G: Gate> Race<'a, G> {
     }
 }
 
-impl<G: Gate> Heartbeat for Race<'_, G> {
-    fn beat(&self) -> Result<(), AllocError> {
-        if self.entered.load(Ordering::SeqCst) < self.enough {
-            self.gate.alive()
-        } else {
-            Err(AllocError)
-        }
-    }
-}
-
 impl<G: Gate> Gate for Race<'_, G> {
     type Pass = G::Pass;
 
@@ -65,12 +55,30 @@ impl<G: Gate> Gate for Race<'_, G> {
         self.entered.fetch_add(1, Ordering::SeqCst);
         self.gate.at(pass, worker, piece);
     }
+}
 
-    fn alive(&self) -> Result<(), AllocError> {
-        if self.won.load(Ordering::SeqCst) {
-            Err(AllocError)
-        } else {
-            self.gate.alive()
+impl<G: Gate> Heartbeat for Race<'_, G> {
+    fn beat(&self) -> Result<(), AllocError> {
+        if self.entered.load(Ordering::SeqCst) >= self.enough {
+            return Err(AllocError);
         }
+        self.gate.alive();
+        Ok(())
+    }
+}
+
+/// The heartbeat of those who draw pieces.
+#[derive(Drop)]
+pub(crate) struct DrawerBeat<'a, 'g, G> {
+    pub race: &'a Race<'g, G>,
+}
+
+impl<G: Gate> Heartbeat for DrawerBeat<'_, '_, G> {
+    fn beat(&self) -> Result<(), AllocError> {
+        if self.race.won.load(Ordering::SeqCst) {
+            return Err(AllocError);
+        }
+        self.race.gate.alive();
+        Ok(())
     }
 }
