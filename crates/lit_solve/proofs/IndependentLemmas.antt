@@ -2,11 +2,10 @@
 -- stay independent.
 use Rattle.lit_solve.proofs.Words.{◌<◌, Any, AreCoherentSources, AreOfEvents, AreSourcesIn, arith, Box, box_events, box_with, byte_read_at}
 use Rattle.lit_solve.proofs.Words.{byte_reads, CanFill, cases_eq, coherent_read_by, Event, EventSet, Execution, false≢true, FillsAll}
-use Rattle.lit_solve.proofs.Words.{HappensBeforeIn, HasEmptyDomain, HasEvent, HasLeastOrderIn, HasNoCompletion, HasSolution, HasSource}
-use Rattle.lit_solve.proofs.Words.{IfNone, IfSome, inl, inr, is_some, IsBox, IsCompletion, IsFilled, IsForbiddenIn, IsIndependent, IsLeaf}
-use Rattle.lit_solve.proofs.Words.{IsLeastOrderOf-same, IsOrderOf-same, IsTrue, IsWithin, length, LieOn, List, None, Option, refl, rules}
+use Rattle.lit_solve.proofs.Words.{HappensBeforeIn, HasEmptyDomain, HasEvent, HasNoCompletion, HasSolution, HasSource, IfNone, IfSome}
+use Rattle.lit_solve.proofs.Words.{inl, inr, is_some, IsBox, IsCompletion, IsFilled, IsForbiddenIn, IsIndependent, IsLeaf}
+use Rattle.lit_solve.proofs.Words.{IsOrderOf-same, IsTrue, IsWithin, length, LieOn, List, None, Option, refl}
 use Rattle.lit_solve.proofs.Words.{slice_get, Some, subst, sym, ℕ, ◌↔◌, ◌∙◌, ◌≡◌}
-use Rattle.lit_solve.proofs.BoxLemmas.{before_grows, forbidden_grows}
 use Rattle.lit_solve.proofs.DescendingLemmas.{alone_stays}
 use Rattle.lit_solve.proofs.DomainLemmas.{pruned_at, pruned_within, none_empty_at, source_other}
 use Rattle.lit_solve.proofs.FillLemmas.{before_back, forbidden_back, grows_in}
@@ -47,12 +46,6 @@ module _ (box : Box) (is : IsIndependent box) (domains : List EventSet) (within 
   forbidden_out : (w q v : ℕ) → IsForbiddenIn part w q v → IsForbiddenIn box w q v
   forbidden_out w q v f = forbidden_back box fills.sources lie_out is.leaf w q v ((grows_in part fills.sources fills.lie).forbidden w q v f)
 
-  before_in : (a d : ℕ) → HappensBeforeIn box a d → HappensBeforeIn part a d
-  before_in = before_grows part box within some
-
-  forbidden_in : (w q v : ℕ) → IsForbiddenIn box w q v → IsForbiddenIn part w q v
-  forbidden_in = forbidden_grows part box within some
-
   leaf_part : IsLeaf part
   leaf_part k below = elim (is.leaf k below) [
     | inl one ↦ inl (one.0, alone_stays part box within some k one.0 below one.1)
@@ -85,9 +78,6 @@ module _ (box : Box) (is : IsIndependent box) (domains : List EventSet) (within 
     );
     filled = fills;
   }
-
-  pub order_within : (order : List ℕ) → HasLeastOrderIn box order → HasLeastOrderIn part order
-  order_within order least = search (rules, IsLeastOrderOf-same, before_in, before_out, forbidden_in, forbidden_out)
 
 -- ---- one domain restricted, and its read can be filled
 module _ (box : Box) (of_events : AreOfEvents (box_events box)) (is : IsIndependent box) (place : ℕ) (left : EventSet) (room : place < length box.domains)
@@ -145,6 +135,3 @@ module _ (box : Box) (of_events : AreOfEvents (box_events box)) (is : IsIndepend
 
   pub independent_part : IsIndependent pruned
   independent_part = independent_within box is pruned.domains inner pruned_some pruned_fills
-
-  pub order_of_part : (order : List ℕ) → HasLeastOrderIn box order → HasLeastOrderIn pruned order
-  order_of_part = order_within box is pruned.domains inner pruned_some pruned_fills

@@ -1,7 +1,7 @@
 -- Leaves: when a frame at its fixpoint in which no open byte read can force anything has a completion.
 use Rattle.lit_solve.proofs.Words.{◌<◌, Any, AreCoherentSources, AreSourcesIn, Box, box_events, CanFill, coherent_read_by, Execution}
-use Rattle.lit_solve.proofs.Words.{Frame, Given, HappensBeforeIn, HasFalseGuardOn, HasLeastOrderIn, HasNoCompletion, HasOrder, HasSolution}
-use Rattle.lit_solve.proofs.Words.{Holds, IfNone, IfSome, IsBox, IsCompletion, IsFilled, IsForbiddenIn, IsIndependent, IsLeaf, IsOrderOf}
+use Rattle.lit_solve.proofs.Words.{Frame, Given, HappensBeforeIn, HasFalseGuardOn, HasNoCompletion, HasOrder, HasSolution}
+use Rattle.lit_solve.proofs.Words.{Holds, IfNone, IfSome, IsBox, IsCompletion, IsFilled, IsForbiddenIn, IsIndependent, IsLeaf, IsLeastOrderOf, IsOrderOf}
 use Rattle.lit_solve.proofs.Words.{IsFixpoint, length, List, None, Option, refl, Some, ℕ, ◌↔◌, ◌≡◌}
 use Rattle.lit_solve.proofs.FillLemmas.{sources_lie}
 
@@ -46,7 +46,7 @@ module _ (box : Box) (frame : Frame) (fixpoint : IsFixpoint box frame) where
       has_order = parts.2
 
     -- with an order of what it gives it has independent reads, and without one no completion
-    pub independent_if : {A : Type 0} (found : Option A) (order : A → List ℕ) → IfSome found (λ a. HasLeastOrderIn box (order a))
+    pub independent_if : {A : Type 0} (found : Option A) (order : A → List ℕ) → IfSome found (λ a. IsLeastOrderOf (length (box_events box)) (HappensBeforeIn box) (IsForbiddenIn box) (order a))
         → ¬ HasFalseGuardOn box.test box.combination None 0
         → ((sources : List ℕ) × AreSourcesIn box sources × ((r : ℕ) → r < length (box_events box) → IsFilled box r sources))
         → IfSome found (λ _. IsIndependent box)

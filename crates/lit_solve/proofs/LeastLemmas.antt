@@ -1,8 +1,8 @@
 -- The least solution: if each domain has one source, these are the sources of each completion.
 use Rattle.lit_solve.proofs.Words.{[], ◌++◌, ◌<◌, ◌↔◌, ◌∙◌, ◌∷◌, ◌≡◌, ◌≢◌, AreAloneBelow, arith, Box, box_events, byte_reads, Event}
-use Rattle.lit_solve.proofs.Words.{Execution, execution_events, get_or, Goal, HappensBeforeIn, HasSolution, HasSource, inl, IsBox}
-use Rattle.lit_solve.proofs.Words.{IsCompletion, IsForbiddenIn, IsLeaf, IsLeastMemoryOrder, IsLeastOrderOf, IsLeastSolution, IsLowest}
-use Rattle.lit_solve.proofs.Words.{IsMemoryOrder, IsOrderOf, IsSolution, length, Less, LiesIn, List, MatchOption, nat_cmp, Option}
+use Rattle.lit_solve.proofs.Words.{Execution, execution_events, get_or, Goal, HappensBeforeIn, HasSolution, HasSource, IfSome, inl, IsBox}
+use Rattle.lit_solve.proofs.Words.{IsCompletion, IsForbiddenIn, IsLeaf, IsLeastMemoryOrder, IsLeastOrderOf, IsLeastOrderOfEach, IsLeastSolution, IsLowest}
+use Rattle.lit_solve.proofs.Words.{IsMemoryOrder, IsOrderOf, IsSolution, length, Less, LiesIn, List, MatchOption, nat_cmp, None, Option, Some}
 use Rattle.lit_solve.proofs.Words.{place-push, Prunes, same_number_lists, slice_cmp, slice_get-get_or, subst, sym, ℕ}
 use Rattle.lit_solve.proofs.BoxLemmas.{same_events}
 use Rattle.lit_solve.proofs.CompletionLemmas.{events_same, sourced}
@@ -31,6 +31,13 @@ module _ (box : Box) (is_box : IsBox box) (leaf : IsLeaf box) (law : HasOneOrder
       → IsLeastMemoryOrder (box_events box) x.sources order
   leaf_ordered order o = grind (arith, one_order)
 
+-- so the least order of what a leaf gives, where there is one, is the least memory-order of each completion
+pub ordered_if : {A : Type 0} (box : Box) → IsBox box → IsLeaf box → HasOneOrder box → (found : Option A) (order : A → List ℕ)
+    → IfSome found (λ a. IsLeastOrderOf (length (box_events box)) (HappensBeforeIn box) (IsForbiddenIn box) (order a))
+    → IfSome found (λ a. IsLeastOrderOfEach box (order a))
+ordered_if box is_box leaf law None order none = none
+ordered_if box is_box leaf law (Some a) order least = λ x is. leaf_ordered box is_box leaf law x is (order a) least
+
 module _ (box : Box) (alone : AreAloneBelow box (length (byte_reads (box_events box)))) (sources : List ℕ) (long : length sources ≡ length (byte_reads (box_events box))) (lies : LiesIn box sources) where
   pub sources_same : (x : Execution) → IsCompletion box x → x.sources ≡ sources
   sources_same x is = same_number_lists x.sources sources (count ∙ sym long) same
@@ -52,7 +59,7 @@ module _ (box : Box) (alone : AreAloneBelow box (length (byte_reads (box_events 
       (leaf_ordered box is_box (λ k below. inl (alone k below)) law x is order o)
 
 -- it is the least of a box from which the descent leads to one where each domain has one source
-module _ (old new : Box) (goal : Goal) (lowest : IsLowest old goal new) (alone : AreAloneBelow new (length (byte_reads (box_events new)))) (is_box : IsBox new) (law : HasOneOrder new) (found : HasSolution new goal)
+module _ (old new : Box) (goal : Goal) (lowest : IsLowest old goal new) (alone : AreAloneBelow new (length (byte_reads (box_events new)))) (found : HasSolution new goal)
     (sources : List ℕ) (long : length sources ≡ length (byte_reads (box_events new))) (lies : LiesIn new sources) where
   same : found.0.sources ≡ sources
   same = sources_same new alone sources long lies found.0 found.1.completes
@@ -64,9 +71,9 @@ module _ (old new : Box) (goal : Goal) (lowest : IsLowest old goal new) (alone :
   pub completion_found : (x : Execution) × IsCompletion old x × (x.sources ≡ sources)
   completion_found = (found.0, (solution_out new old goal lowest.within found.0 found.1).completes, same)
 
-  pub least_found : (order : List ℕ) → IsLeastOrderOf (length (box_events new)) (HappensBeforeIn new) (IsForbiddenIn new) order
+  pub least_found : IsBox new → HasOneOrder new → (order : List ℕ) → IsLeastOrderOf (length (box_events new)) (HappensBeforeIn new) (IsForbiddenIn new) order
       → IsLeastSolution old goal sources order
-  least_found order o = grind (arith, least_ordered, not_less, same, same_events, solution_out)
+  least_found is_box law order o = grind (arith, least_ordered, not_less, same, same_events, solution_out)
 
 -- ---- a pruned box has the solutions of the box before
 pub least_told : {A : Type 0} (old new : Box) (goal : Goal) → Prunes old new → (found : Option A) (sources order : A → List ℕ)

@@ -2,7 +2,7 @@
 -- of the choice.
 use Rattle.lit_solve.proofs.Words.{[], ◌+◌, ◌<◌, ◌∙◌, ◌∷◌, ◌≡◌, ◌≢◌, ◌≤◌, ◌⊎◌, AddsEntries, ap, AreOpenReads, AreValuesBeside, arith, Box}
 use Rattle.lit_solve.proofs.Words.{box_events, byte_read_at, byte_reads, cases_eq, ChangesListed, choices_before, digits_below, Entry}
-use Rattle.lit_solve.proofs.Words.{Event, Execution, execution_outcome, Filling, get_or, get_or-map, HasEachBeside, HasLeastOrderIn}
+use Rattle.lit_solve.proofs.Words.{Event, Execution, execution_outcome, Filling, get_or, get_or-map, HasEachBeside, IsLeastOrderOfEach}
 use Rattle.lit_solve.proofs.Words.{HasOutcome, HasSources, inl, inr, IsChosen, IsCompletion, IsFilled, IsIndependent, IsLeastEntry}
 use Rattle.lit_solve.proofs.Words.{IsLeastFilling, IsListed, IsNotGreaterOn, IsNumberWithout, IsOfCombination, IsOpenRead, Laws, length}
 use Rattle.lit_solve.proofs.Words.{Less, List, Litmus, names_of, nat_cmp, None, none-some, NumbersChoices, observed_read, observed_value}
@@ -12,7 +12,6 @@ use Rattle.lit_solve.proofs.CompletionLemmas.{sourced}
 use Rattle.lit_solve.proofs.EntryLemmas.{adds_stays}
 use Rattle.lit_solve.proofs.FillLemmas.{filled_by, sources_lie}
 use Rattle.lit_solve.proofs.LeafLemmas.{IsFilledReadByRead}
-use Rattle.lit_solve.proofs.LeastLemmas.{HasOneOrder, leaf_ordered}
 use Rattle.lit_solve.proofs.LexLemmas.{not_less_at}
 use Rattle.lit_solve.proofs.NumberLemmas.{first_not_listed, listed_first, listed_in_rest, listed_rest, share_agrees, whole_has, whole_within}
 use Rattle.lit_solve.proofs.ObservationLemmas.{length_outcome, observed_in, outcome_is}
@@ -69,7 +68,7 @@ module _ (laws : Laws) (box : Box) (is : IsIndependent box) where
     ])
 
     module _ (numbers : NumbersChoices box.test box.combination) (of : (n : ℕ) → choices_before box.test box.combination ≤ n
-        → n < choices_before box.test (box.combination + 1) → IsOfCombination box.test n box.combination) (one_order : HasOneOrder box) where
+        → n < choices_before box.test (box.combination + 1) → IsOfCombination box.test n box.combination) where
       abbrev best : Execution
       best = chosen.execution
 
@@ -81,7 +80,7 @@ module _ (laws : Laws) (box : Box) (is : IsIndependent box) where
           let below = whole_within box.test box.combination numbers best.sources (sourced box best chosen.completes) in
           omega (arith, below, is_number)
 
-      pub chosen_entry : (order : List ℕ) → HasLeastOrderIn box order
+      pub chosen_entry : (order : List ℕ) → IsLeastOrderOfEach box order
           → IsLeastEntry box (record { outcome = values; choice = number; order = order })
       chosen_entry order least_order = record {
         execution = best;
@@ -93,7 +92,7 @@ module _ (laws : Laws) (box : Box) (is : IsIndependent box) where
             (whole_has box.test box.combination numbers best.sources (sourced box best chosen.completes)
             (subst (λ (n : ℕ). IsOfCombination box.test n box.combination) (sym is_number) (of number (omega (arith, is_number)) within)));
         least = not_less;
-        ordered = leaf_ordered box is.is_box is.leaf one_order best chosen.completes order least_order;
+        ordered = least_order best chosen.completes;
       }
         where
           not_less : (x : Execution) → IsCompletion box x → outcome_in x ≡ values → slice_cmp nat_cmp x.sources best.sources ≢ Less

@@ -61,7 +61,7 @@ pub use Rattle.lit_solve.specs.Internal.Descending.{AreAloneBelow, IsLowest, IsL
 pub use Rattle.lit_solve.specs.Internal.Filling.{bytes_taken, CanFillOn, CanFillWith, FillsBytes, HasRoom, IsFirstPlace, LieFrom, reads_on, TakesOn}
 pub use Rattle.lit_solve.specs.Internal.Filling.{TakesWhole, WholeWith, WouldNotTear}
 pub use Rattle.lit_solve.specs.Internal.Frames.{AreCoherentAt, box_of, IsContained, IsExact, IsForbiddenAt, IsProblem, IsSynchronizedAt}
-pub use Rattle.lit_solve.specs.Internal.Independent.{FillsAll, FillsRead, HasLeastOrderIn, IsIndependent, IsLeastFilling}
+pub use Rattle.lit_solve.specs.Internal.Independent.{FillsAll, FillsRead, IsLeastOrderOfEach, IsIndependent, IsLeastFilling}
 pub use Rattle.lit_solve.specs.Internal.Independent.{IsNotGreaterOn, LieOn}
 pub use Rattle.lit_solve.specs.Internal.Leaves.{CanFillAt, IsOrderOfBox, MayHave, RacesAt, RacesIn}
 pub use Rattle.lit_solve.specs.Internal.Observation.{AreFirstValues, IsObservation, IsObservedAt, IsValueObserved, part_with}

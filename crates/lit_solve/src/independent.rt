@@ -13,14 +13,12 @@ ghost use Rattle.lit_solve.specs.Completion.{IsCompletion, IsLeastSolution};
 ghost use Rattle.lit_solve.specs.declared.goal.Goal.TheVariants.{Any};
 ghost use Rattle.lit_solve.specs.Given.{HasAlone};
 ghost use Rattle.lit_solve.specs.Internal.Descending.{IsLowestAt};
-ghost use Rattle.lit_solve.specs.Internal.Independent.{HasLeastOrderIn, IsIndependent};
+ghost use Rattle.lit_solve.specs.Internal.Independent.{IsLeastOrderOfEach, IsIndependent};
 ghost use Rattle.lit_solve.specs.Internal.Pruning.{size_of};
 ghost use Rattle.lit_solve.specs.Internal.Fixpoint.{IsRestricted, TakesFrom};
 
 use crate::domains::{Domains, only_one, set_of};
-use crate::laws::{
-    completions_fill_each_read, leaves_are_filled_read_by_read, leaves_have_one_order,
-};
+use crate::laws::{completions_fill_each_read, leaves_are_filled_read_by_read};
 use crate::problem::Problem;
 use lit_paths::Sources;
 use lit_rel::EventSet;
@@ -38,8 +36,6 @@ impl Problem<'_> {
         requires place { place < length (byte_reads (events_on self.now)) }
         requires independent { IsIndependent (box_with self.now domains.old) }
         ensures independent { IsTrue result → IsIndependent (box_with self.now domains.new) }
-        ensures order { IsTrue result → (order : List ℕ) → HasLeastOrderIn (box_with self.now domains.old) order
-            → HasLeastOrderIn (box_with self.now domains.new) order }
         ensures restricted { IsTrue result → IsRestricted (box_with self.now domains.old) place set (box_with self.now domains.new) }
         ensures less { IsTrue result → ¬ ((w : ℕ) → HasSource (box_with self.now domains.old) place w → HasEvent set w)
             → size_of domains.new < size_of domains.old }
@@ -64,8 +60,6 @@ impl Problem<'_> {
         requires place { place < length (byte_reads (events_on self.now)) }
         requires independent { IsIndependent (box_with self.now domains.old) }
         ensures independent { IsIndependent (box_with self.now domains.new) }
-        ensures order { (order : List ℕ) → HasLeastOrderIn (box_with self.now domains.old) order
-            → HasLeastOrderIn (box_with self.now domains.new) order }
         ensures alone { (w : ℕ) × HasAlone (box_with self.now domains.new) place w }
         ensures lowest { IsLowestAt (box_with self.now domains.old) Any place (box_with self.now domains.new) }
     {
@@ -93,11 +87,10 @@ impl Problem<'_> {
         requires { IsIndependent (box_with self.now domains.now) }
         ensures completes { (x : Execution) × IsCompletion (box_with self.now domains.now) x × (x.sources ≡ result.items) }
         ensures least { (x : Execution) → IsCompletion (box_with self.now domains.now) x → slice_cmp nat_cmp x.sources result.items ≢ Less }
-        ensures ordered { (order : List ℕ) → HasLeastOrderIn (box_with self.now domains.now) order
+        ensures ordered { (order : List ℕ) → IsLeastOrderOfEach (box_with self.now domains.now) order
             → IsLeastSolution (box_with self.now domains.now) Any result.items order }
     {
         leaves_are_filled_read_by_read();
-        leaves_have_one_order();
         let mut down = *domains;
         for place in 0..self.reads() {
             self.give_least(&mut down, place);

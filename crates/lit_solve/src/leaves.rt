@@ -10,14 +10,16 @@ ghost use Rattle.lit_solve.specs.Completion.{HasSolution};
 ghost use Rattle.lit_solve.specs.Fill.{CanFill, IsLeaf};
 ghost use Rattle.lit_solve.specs.declared.goal.Goal.TheVariants.{Any};
 ghost use Rattle.lit_solve.specs.Internal.Frames.{IsContained, box_of};
-ghost use Rattle.lit_solve.specs.Internal.Independent.{HasLeastOrderIn, IsIndependent};
+ghost use Rattle.lit_solve.specs.Internal.Independent.{IsLeastOrderOfEach, IsIndependent};
 ghost use Rattle.lit_solve.specs.Internal.Leaves.{MayHave, RacesAt, RacesIn};
 ghost use Rattle.lit_solve.specs.Internal.Pruning.{HasNoCompletion};
 ghost use Rattle.lit_solve.specs.Internal.Fixpoint.{IsFixpoint};
 
 use crate::domains::{Domains, set_of};
 use crate::frame::Frame;
-use crate::laws::{leaves_are_filled_read_by_read, reads_are_filled_together};
+use crate::laws::{
+    leaves_are_filled_read_by_read, leaves_have_one_order, reads_are_filled_together,
+};
 use crate::problem::Problem;
 use lit_order::Order;
 use lit_rel::{Rows, are_apart, has_racing_writes};
@@ -43,11 +45,12 @@ impl Problem<'_> {
         requires fixpoint { IsFixpoint (box_of self.now frame.now) frame.now }
         requires leaf { IsLeaf (box_of self.now frame.now) }
         ensures independent { IfSome result (λ _. IsIndependent (box_of self.now frame.now)) }
-        ensures least { IfSome result (λ order. HasLeastOrderIn (box_of self.now frame.now) order.items) }
+        ensures least { IfSome result (λ order. IsLeastOrderOfEach (box_of self.now frame.now) order.items) }
         ensures none { IfNone result (HasNoCompletion (box_of self.now frame.now)) }
     {
         reads_are_filled_together();
         leaves_are_filled_read_by_read();
+        leaves_have_one_order();
         if self.has_false_unwritten() {
             return None;
         }

@@ -3,7 +3,7 @@
 ghost use Rattle.std.specs.Prelude.{◌≡◌, ◌↔◌, ℕ, ◌<◌, IsTrue, OnOk, Some, [], length, slice_get, slice_index_or};
 ghost use Rattle.lit_valid.specs.Entry.{HasOutcome};
 ghost use Rattle.lit_solve.specs.Box.{box_with, events_on};
-ghost use Rattle.lit_solve.specs.Internal.Independent.{HasLeastOrderIn, IsIndependent};
+ghost use Rattle.lit_solve.specs.Internal.Independent.{IsLeastOrderOfEach, IsIndependent};
 ghost use Rattle.lit_solve.specs.Internal.Product.{AreOpenReads, AreValuesBeside, ChangesListed, HasEachBeside};
 ghost use Rattle.lit_solve.specs.Internal.Product.{IsChosen, IsListed, Observes};
 ghost use Rattle.lit_solve.specs.Outcomes.{AddsEntries, HasEachOutcome};
@@ -11,7 +11,7 @@ ghost use Rattle.lit_solve.specs.Outcomes.{AddsEntries, HasEachOutcome};
 use crate::decided::Decided;
 use crate::domains::Domains;
 use crate::heartbeat::Heartbeat;
-use crate::laws::{leaves_are_filled_read_by_read, leaves_have_one_order};
+use crate::laws::leaves_are_filled_read_by_read;
 use crate::numbering::first_of;
 use crate::observation::Values;
 use crate::problem::Problem;
@@ -155,13 +155,12 @@ impl Problem<'_> {
     ) -> Result<(), AllocError>
         requires independent { IsIndependent (box_with self.now _domains.now) }
         requires chosen { IsChosen (box_with self.now _domains.now) [] outcome.now number }
-        requires order { HasLeastOrderIn (box_with self.now _domains.now) order.now.items }
+        requires order { IsLeastOrderOfEach (box_with self.now _domains.now) order.now.items }
         ensures added { AddsEntries (box_with self.now _domains.now) (T.entries table.old) (T.entries table.new) }
         ensures whole { OnOk result (HasOutcome (T.entries table.new) outcome.now) }
     {
-        // For the prover: all completions have this order, and the number is that of a choice on the combination.
+        // For the prover: the number is that of a choice on the combination.
         laws_below();
-        leaves_have_one_order();
         let _first = first_of(&self.combination);
         if table.has(outcome) {
             return Ok(());
@@ -186,7 +185,7 @@ impl Problem<'_> {
         requires independent { IsIndependent (box_with self.now domains.now) }
         requires reads { AreOpenReads (box_with self.now domains.now) reads.now }
         requires chosen { IsChosen (box_with self.now domains.now) reads.now values.old.items number }
-        requires order { HasLeastOrderIn (box_with self.now domains.now) order.now.items }
+        requires order { IsLeastOrderOfEach (box_with self.now domains.now) order.now.items }
         ensures values { ChangesListed self.now reads.now values.old.items values.new.items }
         ensures added { AddsEntries (box_with self.now domains.now) (T.entries table.old) (T.entries table.new) }
         ensures whole { OnOk result (HasEachBeside (box_with self.now domains.now) reads.now values.old.items (T.entries table.new)) }
@@ -219,7 +218,7 @@ impl Problem<'_> {
         heartbeat: &H,
     ) -> Result<(), AllocError>
         requires independent { IsIndependent (box_with self.now domains.now) }
-        requires order { HasLeastOrderIn (box_with self.now domains.now) order.now.items }
+        requires order { IsLeastOrderOfEach (box_with self.now domains.now) order.now.items }
         ensures added { AddsEntries (box_with self.now domains.now) (T.entries table.old) (T.entries table.new) }
         ensures whole { OnOk result (HasEachOutcome (box_with self.now domains.now) (T.entries table.new)) }
     {

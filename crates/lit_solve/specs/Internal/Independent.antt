@@ -2,11 +2,13 @@
 use Rattle.std.specs.Prelude.{◌≡◌, ℕ, ◌<◌, ◌≤◌, List, None, Some, length, slice_get, slice_index_or}
 use Rattle.lit_paths.specs.declared.event.Event.{Event}
 use Rattle.lit_paths.specs.ByteReads.{byte_reads}
+use Rattle.lit_paths.specs.Execution.{Execution}
 use Rattle.lit_paths.specs.Members.{AreSources}
 use Rattle.lit_rel.specs.Broken.{HasFalseGuardOn}
 use Rattle.lit_rel.specs.ReadsFrom.{value_of}
-use Rattle.lit_order.specs.MemoryOrder.{HasOrder, IsLeastOrderOf}
+use Rattle.lit_order.specs.MemoryOrder.{HasOrder, IsLeastMemoryOrder}
 use Rattle.lit_solve.specs.Box.{Box, HasEmptyDomain, HasSource, IsBox, box_events}
+use Rattle.lit_solve.specs.Completion.{IsCompletion}
 use Rattle.lit_solve.specs.Fill.{AreCoherentSources, AreSourcesIn, IsFilled, IsLeaf}
 use Rattle.lit_solve.specs.Given.{HappensBeforeIn, IsForbiddenIn}
 
@@ -28,9 +30,9 @@ pub record IsIndependent (box : Box) : Type 0 where
   pub ordered : HasOrder (length (box_events box)) (HappensBeforeIn box) (IsForbiddenIn box)
   pub filled : FillsAll box
 
--- the least order of what is given
-abbrev pub HasLeastOrderIn : Box → List ℕ → Type 0
-HasLeastOrderIn box order = IsLeastOrderOf (length (box_events box)) (HappensBeforeIn box) (IsForbiddenIn box) order
+-- the least memory-order of each completion
+abbrev pub IsLeastOrderOfEach : Box → List ℕ → Type 0
+IsLeastOrderOfEach box order = (x : Execution) → IsCompletion box x → IsLeastMemoryOrder (box_events box) x.sources order
 
 -- ---- the sources of one read
 -- sources of all byte reads, of which those of read r lie in the box

@@ -1,4 +1,4 @@
-use Rattle.lit_solve.proofs.Words.{Any, arith, Box, box_with, EventSet, HasLeastOrderIn, IsIndependent, IsLowestAt, List, Litmus}
+use Rattle.lit_solve.proofs.Words.{Any, arith, Box, box_with, EventSet, IsIndependent, IsLowestAt, List, Litmus}
 use Rattle.lit_solve.proofs.Words.{split_less, subst, sym, ℕ, ◌≡◌}
 use Rattle.lit_solve.proofs.DescendingLemmas.{restricted_alone, lowest_at}
 use Rattle.lit_solve.proofs.IndependentLemmas.{independent_solution}
@@ -27,8 +27,6 @@ returns-then-restrict_independent c =
     let alone = restricted_alone old new c.args.place source c.set_of.result (λ w. (c.set_of.ensures w).0) restricted c.requires.place independent.some in
     record {
       independent = independent;
-      order = λ order least. c.restrict_independent.ensures.order c.if-restrict_independent.true order
-          (subst (λ (ds : List EventSet). HasLeastOrderIn (box_with c.args.self.now ds) order) (sym c.loop-source.invariant.same) least);
       alone = (source, alone);
       lowest = subst (λ (ds : List EventSet). IsLowestAt (box_with c.args.self.now ds) Any c.args.place new) c.loop-source.invariant.same
           (lowest_at old new Any c.args.place c.requires.place c.loop-source.left c.in-Some-split_first.others c.set_of.result source

@@ -14,8 +14,8 @@ pub returns-in-Some : goal.returns-in-Some
 returns-in-Some c =
     let new = box_of c.args.self.now c.find_least.new.frame in
     least_found (box_of c.args.self.now c.args.frame.now) new c.args.goal (c.find_least.ensures.lowest c.if-not-find_least.false) (c.find_least.ensures.alone c.if-not-find_least.false)
-    (c.find_least.ensures.fixpoint c.if-not-find_least.false).exact.contained.is_box (c.leaves_have_one_order.ensures new) (c.find_least.ensures.found c.if-not-find_least.false)
-    c.sources_of.result.items c.sources_of.ensures.one_each c.sources_of.ensures.within c.in-Some.order.items c.in-Some.ensures.found
+    (c.find_least.ensures.found c.if-not-find_least.false) c.sources_of.result.items c.sources_of.ensures.one_each c.sources_of.ensures.within
+    (c.find_least.ensures.fixpoint c.if-not-find_least.false).exact.contained.is_box (c.leaves_have_one_order.ensures new) c.in-Some.order.items c.in-Some.ensures.found
 
 pub returns-in-None : goal.returns-in-None
 returns-in-None c _ =

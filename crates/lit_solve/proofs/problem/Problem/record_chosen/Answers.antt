@@ -1,5 +1,5 @@
 use Rattle.lit_solve.proofs.Words.{◌+◌, ◌<◌, ◌∙◌, ◌≡◌, ◌≤◌, arith, box_with, choices_before, common_steps, Entry, false≢true}
-use Rattle.lit_solve.proofs.Words.{HasLeastOrderIn, HasOutcome, IsOfCombination, List, Litmus, NumbersChoices, same_from_all_zip, subst}
+use Rattle.lit_solve.proofs.Words.{HasOutcome, IsLeastOrderOfEach, IsOfCombination, List, Litmus, NumbersChoices, same_from_all_zip, subst}
 use Rattle.lit_solve.proofs.Words.{sym, ℕ}
 use Rattle.lit_solve.proofs.EntryLemmas.{adds_one, outcome_of_last}
 use Rattle.lit_solve.proofs.ProductLemmas.{chosen_entry}
@@ -16,8 +16,8 @@ returns-clause-added g c =
     adds_one box (entries c.args.table.now) (entries c.record.new.self)
     (record { outcome = c.args.outcome.now; choice = c.args.number; order = c.in_ok-order.order.items })
     (chosen_entry c.laws_below.ensures box c.requires.independent c.args.outcome.now c.args.number c.requires.chosen numbers of
-    (c.leaves_have_one_order.ensures box) c.in_ok-order.order.items
-    (subst (HasLeastOrderIn box) same c.requires.order))
+    c.in_ok-order.order.items
+    (subst (IsLeastOrderOfEach box) same c.requires.order))
     (λ has. false≢true (sym c.if-has.false ∙ c.has.ensures.1 has)) (c.in_ok-record.ensures.ok)
 
 pub returns-clause-whole : goal.returns-clause-whole

@@ -1,7 +1,7 @@
 use Rattle.lit_solve.proofs.Words.{◌<◌, ap, arith, box_with, CanFill, events_on, length, not, refl, subst, ℕ}
 use Rattle.lit_solve.proofs.DomainLemmas.{pruned_at, pruned_is_box, none_at, none_empty_at, size_less}
 use Rattle.lit_solve.proofs.FrameLemmas.{not_true}
-use Rattle.lit_solve.proofs.IndependentLemmas.{independent_part, order_of_part}
+use Rattle.lit_solve.proofs.IndependentLemmas.{independent_part}
 use Rattle.lit_solve.proofs.PruningLemmas.{some_exactly}
 use Rattle.lit_solve.proofs.OpeningLemmas.{completion_taken, restricted_on, left_within, source_taken}
 use Rattle.lit_solve.proofs.RacingLemmas.{read_number}
@@ -43,8 +43,6 @@ returns c =
     record {
       independent = λ good. independent_part box of_events c.requires.independent c.args.place left room c.requires.place within some
           (subst (λ (r : ℕ). CanFill part r) read (c.can_fill.ensures.0 good));
-      order = λ good order least. order_of_part box of_events c.requires.independent c.args.place left room c.requires.place within some
-          (subst (λ (r : ℕ). CanFill part r) read (c.can_fill.ensures.0 good)) order least;
       restricted = λ _. restricted_on box c.args.place c.args.set left room c.intersection-left.ensures part
           (record { within = record { test = refl; combination = refl; domains = λ k w there. there }; retained = λ x completes. completes });
       less = λ _ not_all. size_less box c.args.place left room within (λ all. not_all (λ w there. ((c.intersection-left.ensures w).0 (all w there)).1));
