@@ -144,32 +144,6 @@ impl Problem<'_> {
         Ok(())
     }
 
-    /// Records the outcome with these values and its example, the choice of this number, if the table lacks the outcome.
-    fn record_chosen<T: OutcomeTable>(
-        &self,
-        _domains: &Domains,
-        outcome: &[u32],
-        number: u64,
-        order: &Order,
-        table: &mut T,
-    ) -> Result<(), AllocError>
-        requires independent { IsIndependent (box_with self.now _domains.now) }
-        requires chosen { IsChosen (box_with self.now _domains.now) [] outcome.now number }
-        requires order { IsLeastOrderOfEach (box_with self.now _domains.now) order.now.items }
-        ensures added { AddsEntries (box_with self.now _domains.now) (T.entries table.old) (T.entries table.new) }
-        ensures whole { OnOk result (HasOutcome (T.entries table.new) outcome.now) }
-    {
-        // For the prover: the number is that of a choice on the combination.
-        laws_below();
-        let _first = first_of(&self.combination);
-        if table.has(outcome) {
-            return Ok(());
-        }
-        let order = order.clone()?;
-        table.record(outcome, number, order)?;
-        Ok(())
-    }
-
     /// Records the outcomes that the table lacks of the completions that have these values beside the listed reads. It overwrites the
     /// values of registers that observe a listed read. `number` is that of the choice that each of these reads adds its share to.
     fn product<T: OutcomeTable, H: Heartbeat>(
@@ -196,7 +170,13 @@ impl Problem<'_> {
         let _first = first_of(&self.combination);
         heartbeat.beat()?;
         let Some((first, rest)) = reads.split_first() else {
-            return self.record_chosen(domains, values.as_slice(), number, order, table);
+            let outcome = values.as_slice();
+            if table.has(outcome) {
+                return Ok(());
+            }
+            let order = order.clone()?;
+            table.record(outcome, number, order)?;
+            return Ok(());
         };
         for i in 0..first.fillings.len() {
             let filling = first.fillings[i];

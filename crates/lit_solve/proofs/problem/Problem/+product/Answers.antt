@@ -1,24 +1,56 @@
-use Rattle.lit_solve.proofs.Words.{◌+◌, ◌∙◌, ◌∷◌, ◌≡◌, ◌≤◌, ap, AreOpenReads, arith, box_with, ChangesListed, CHOICE_LIMIT, choices_before}
-use Rattle.lit_solve.proofs.Words.{execution_outcome, Filling, HasEachBeside, HasOutcome, inr, IsChosen, IsFilling, length, List}
-use Rattle.lit_solve.proofs.Words.{Litmus, nil_from_length, NumbersChoices, on_ok_weaker, OpenRead, refl, slice_get, slice_get-get_or}
+use Rattle.lit_solve.proofs.Words.{[], ◌+◌, ◌<◌, ◌∙◌, ◌∷◌, ◌≡◌, ◌≤◌, ap, AreOpenReads, arith, box_with, ChangesListed, CHOICE_LIMIT}
+use Rattle.lit_solve.proofs.Words.{choices_before, common_steps, Entry, Execution, execution_outcome, false≢true, Filling, HasEachBeside}
+use Rattle.lit_solve.proofs.Words.{HasOutcome, inr, IsChosen, IsCompletion, IsFilling, IsLeastOrderOfEach, IsOfCombination, length, List}
+use Rattle.lit_solve.proofs.Words.{Litmus, nil_from_length, NumbersChoices, OpenRead, refl, same_from_all_zip, slice_get, slice_get-get_or}
 use Rattle.lit_solve.proofs.Words.{Some, subst, sym, ℕ}
-use Rattle.lit_solve.proofs.EntryLemmas.{adds_more, adds_none}
+use Rattle.lit_solve.proofs.EntryLemmas.{adds_more, adds_none, adds_one, outcome_of_last}
 use Rattle.lit_solve.proofs.ObservationLemmas.{length_outcome}
 use Rattle.lit_solve.proofs.OpenReadLemmas.{changes_first, changes_more, changes_none, changes_rest, reads_rest, value_from_first}
-use Rattle.lit_solve.proofs.ProductLemmas.{IsGivingFirst, all_values_seen, chosen_next, number_within, same_values, seen_next}
+use Rattle.lit_solve.proofs.ProductLemmas.{IsGivingFirst, all_values_seen, chosen_entry, chosen_next, number_within, same_values, seen_next}
 use Rattle.lit_solve.proofs.problem.Problem.+product.Goals as goal
-use Rattle.lit_solve.proofs.problem.Problem.+product.Goals.{After-index-filling, After-product, After-set_values, In-Some}
+use Rattle.lit_solve.proofs.problem.Problem.+product.Goals.{After-index-filling, After-product, After-set_values, In-Some, In_default}
 
-pub returns-in_default-clause-whole : goal.returns-in_default-clause-whole
-returns-in_default-clause-whole g t c =
+-- ---- no read is left
+-- the one outcome of the completions that have these values
+same_outcome : (g : _) (t : _) (c : In_default g t) → (x : Execution) → IsCompletion (box_with c.args.self.now c.args.domains.now) x
+    → ChangesListed c.args.self.now c.args.reads.now c.args.values.now.items (execution_outcome c.args.self.now.0 x)
+    → c.args.values.now.items ≡ execution_outcome c.args.self.now.0 x
+same_outcome g t c x completes changes =
+    let none = nil_from_length c.args.reads.now c.in_default.ensures.cases in
+    sym (same_values c.laws_below.ensures (box_with c.args.self.now c.args.domains.now) c.requires.independent c.args.values.now.items c.args.number
+    (subst (λ (rs : List OpenRead). IsChosen (box_with c.args.self.now c.args.domains.now) rs c.args.values.now.items c.args.number) none c.requires.chosen) x
+    (subst (λ (rs : List OpenRead). ChangesListed c.args.self.now rs c.args.values.now.items (execution_outcome c.args.self.now.0 x)) none changes))
+
+pub returns-then-has-clause-whole : goal.returns-then-has-clause-whole
+returns-then-has-clause-whole g t c x completes changes =
+    let at = goal.at.returns-then-has-clause-whole g t c in
+    subst (HasOutcome (g.T.OutcomeTable.entries c.args.table.now)) (c.as_slice-outcome.ensures.value ∙ same_outcome g t at.In_default x completes changes)
+    (c.has.ensures.0 c.if-has.true)
+
+pub returns-in_default-clause-added : goal.returns-in_default-clause-added
+returns-in_default-clause-added g t c =
     let box = box_with c.args.self.now c.args.domains.now in
     let none = nil_from_length c.args.reads.now c.in_default.ensures.cases in
-    on_ok_weaker c.record_chosen.result (λ has x completes changes.
-    let same = same_values c.laws_below.ensures box c.requires.independent c.args.values.now.items c.args.number
-    (subst (λ (rs : List OpenRead). IsChosen box rs c.args.values.now.items c.args.number) none c.requires.chosen) x
-    (subst (λ (rs : List OpenRead). ChangesListed c.args.self.now rs c.args.values.now.items (execution_outcome c.args.self.now.0 x)) none changes) in
-    subst (HasOutcome (g.T.OutcomeTable.entries c.record_chosen.new.table)) (c.as_slice.ensures.value ∙ sym same) has)
-    c.record_chosen.ensures.whole
+    let numbers = subst (λ (p : Litmus × ℕ). NumbersChoices p.0 p.1) c.self.view_is c.first_of-first.ensures.numbers in
+    let of = subst (λ (p : Litmus × ℕ). (n : ℕ) → choices_before p.0 p.1 ≤ n → n < choices_before p.0 (p.1 + 1) → IsOfCombination p.0 n p.1)
+    c.self.view_is c.first_of-first.ensures.of in
+    let entries = g.T.OutcomeTable.entries in
+    let outcome = c.as_slice-outcome.result.now in
+    let same : c.args.order.now.items ≡ c.in_ok-order.order.items = grind (arith, common_steps, same_from_all_zip, c.in_ok-order.ensures.cases) in
+    adds_one box (entries c.args.table.now) (entries c.record.new.self) (record { outcome = outcome; choice = c.args.number; order = c.in_ok-order.order.items })
+    (chosen_entry c.laws_below.ensures box c.requires.independent outcome c.args.number
+    (subst (λ (vs : List ℕ). IsChosen box [] vs c.args.number) (sym c.as_slice-outcome.ensures.value)
+    (subst (λ (rs : List OpenRead). IsChosen box rs c.args.values.now.items c.args.number) none c.requires.chosen)) numbers of
+    c.in_ok-order.order.items (subst (IsLeastOrderOfEach box) same c.requires.order))
+    (λ has. false≢true (sym c.if-has.false ∙ c.has.ensures.1 has)) c.in_ok-record.ensures.ok
+
+pub returns-in_default-clause-whole : goal.returns-in_default-clause-whole
+returns-in_default-clause-whole g t c x completes changes =
+    let at = goal.at.returns-in_default-clause-whole g t c in
+    let entries = g.T.OutcomeTable.entries in
+    subst (HasOutcome (entries c.record.new.self)) (c.as_slice-outcome.ensures.value ∙ same_outcome g t at.In_default x completes changes)
+    (subst (λ (es : List Entry). HasOutcome es c.as_slice-outcome.result.now) (sym c.in_ok-record.ensures.ok)
+    (outcome_of_last (entries c.args.table.now) (record { outcome = c.as_slice-outcome.result.now; choice = c.args.number; order = c.in_ok-order.order.items })))
 
 -- ---- the first read, and the value at hand
 are_open : (g : _) (t : _) (c : In-Some g t) → AreOpenReads (box_with c.args.self.now c.args.domains.now) (c.in-Some.first.now ∷ c.in-Some.rest.now)
