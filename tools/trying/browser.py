@@ -1,5 +1,4 @@
 """A browser without a screen, driven over its own protocol by two pipes: Debian's chromium-headless-shell, or chromium."""
-import base64
 import fcntl
 import json
 import os
@@ -135,10 +134,3 @@ class Browser:
 
     def type(self, text):
         self.ask("Input.insertText", text=text)
-
-    def shot(self, name):
-        whole = self.ask("Page.getLayoutMetrics")["cssContentSize"]
-        data = self.ask("Page.captureScreenshot", format="png", captureBeyondViewport=True,
-                        clip={"x": 0, "y": 0, "width": whole["width"], "height": whole["height"], "scale": 1})["data"]
-        with open(name, "wb") as file:
-            file.write(base64.b64decode(data))

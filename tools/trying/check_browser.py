@@ -10,10 +10,10 @@ from trying.page import WIDE, with_page
 from trying.serving import by_command, by_nobody, feigned, litmus, plainly, same
 
 
-def cases(site, shots):
+def cases(site):
     """Names and functions; each has a browser and a server of its own."""
     def on(case, serving, folder):
-        return lambda: with_page(case, site, serving, folder, shots)
+        return lambda: with_page(case, site, serving, folder)
 
     real = [(case, plainly) for case in SERVED] + [(everyday, by_command), (everyday, by_nobody), (a_program, by_nobody)]
     return ([(f"page, {case.__name__} {serving.__name__}", on(case, serving, site.folder)) for case, serving in real] +
@@ -38,7 +38,6 @@ def store_buffering(page):
     same(page.value("document.querySelector('#colours').textContent === document.querySelector('#text').value + '\\n'"), True)
     same(page.value("[...document.querySelectorAll('#colours .keyword')].map((each) => each.textContent).join(' ')"),
          "test bytes agent = agent = check == && ==")
-    page.picture("sb")
 
 
 def tearing(page):
@@ -49,7 +48,6 @@ def tearing(page):
     labels = page.value("[...document.querySelectorAll('#picture g.reads text')].map((text) => text.textContent)")
     same(sorted(labels), ["byte 0", "byte 1"])
     same(page.value("document.querySelector('.key .race').hidden"), False)
-    page.picture("tear")
 
 
 def sorted_and_filtered(page):
@@ -75,7 +73,6 @@ def refused(page):
     same(page.said("#numbers").split("\n")[10:13], ["11", "\u25b6 12", "13"])
     assert "Line 12: refused 3 syntax line 12" in page.said("#refusal") and "write: r0 = U8[0]" in page.said("#refusal")
     same(page.value("document.querySelector('#text').getAttribute('aria-invalid')"), "true")
-    page.picture("refusal")
     page.click("#take")
     same(page.value("document.querySelector('#text').value.split('\\n')[11]"), "r0 = U8[0]")
     page.run()
@@ -112,7 +109,6 @@ def turns(page):
         page.click(f"[data-agent={agent}]")
         page.until(f"document.querySelector('#turns').innerText.includes('Turns: {schedule}, and then')")
         same(page.said("#interleaving"), f"interleaving {values}")
-    page.picture("turns")
     page.choose("#filter-1", "0")
     page.click("#turns button")
     page.drawn()
@@ -165,14 +161,12 @@ def narrow_and_dark(page):
     page.click("#fit")
     same(page.value("document.querySelector('#picture').scrollWidth > document.querySelector('#picture').clientWidth"), True)
     page.click("#fit")
-    page.picture("narrow")
     page.window(1280, 900)
     light = page.value("getComputedStyle(document.body).backgroundColor")
     page.dark(True)
     page.until(f"getComputedStyle(document.body).backgroundColor !== {json.dumps(light)}")
     same(page.value("getComputedStyle(document.body).backgroundColor"), "rgb(13, 17, 23)")
     same(page.value("getComputedStyle(document.querySelector('#picture rect')).fill"), "rgb(13, 17, 23)")
-    page.picture("dark")
 
 
 def named_for_all(page):
@@ -196,7 +190,6 @@ def faults(page):
          [f"Line {n}: " for n in (1, 3, 4, 5, 7, 8, 10, 12)])
     same([line for line in page.said("#numbers").split("\n") if "\u25b6" in line], [f"\u25b6 {n}" for n in (1, 3, 4, 5, 7, 8, 10, 12)])
     same(page.said("#take-all"), "Take these 8 lines")
-    page.picture("faults")
     page.click("#take-all")
     same(page.value("document.querySelector('#text').value"), "test t\nbytes 8\nagent A\nU32[0] = 1 // ta[0]: U32[0]\n\nagent B\n"
          "r0 = Atomics.load(U32, 0) // ta[0]: U32[0]\nif r0 == 1 {\n\nr1 = U32[1] // ta[1]: U32[1]\n}\ncheck B.r1 == 1\n")
@@ -232,7 +225,6 @@ def noted(page):
     same(page.said("#notes li"), "Line 7 A can't read 1 into r0: A.r0 == 1 never holds")
     page.click("#notes button")
     same(page.value("document.activeElement.id"), "text")
-    page.picture("notes")
     page.choose("#library", "sb")
     page.run()
     same(page.value("document.querySelector('#notes').hidden"), True)
@@ -253,7 +245,6 @@ def folded(page):
     same(page.said("#verdict strong"), "mp_words: verdict never")
     page.click("#syntax summary")
     assert "r0 = Atomics.load(U32, 1)" in page.said("#syntax")
-    page.picture("syntax")
 
 
 def everyday(page):

@@ -73,7 +73,6 @@ def programs(page):
         same(page.said("#taken"), "taken for JavaScript")
         told[name] = by_command(page, code)
         same((name, printed(page)), (name, told[name]))
-        page.picture(f"program-{name}")
         if name == "ring":
             same(page.said("#verdict strong"), "check sometimes, fails in 1 of 3")
             page.click("#program-table tbody tr:nth-child(1) button")
@@ -154,7 +153,6 @@ def hostile(page):
         run(page, f"{HEAD}{made}made({f'import({address!r}).catch(() => 0)'!r});\n{AGENTS}")
         assert ANSWER in printed(page), printed(page)
         same(seen, [])
-    page.picture("hostile")
 
 
 def nothing_of_the_browser(page):

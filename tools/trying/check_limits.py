@@ -12,7 +12,6 @@ def ended(page):
     page.click("#run")
     page.until("document.querySelector('#verdict.is-stopped #offered')")
     assert "Stopped at the limit of 10 seconds" in page.said("#verdict")
-    page.picture("long")
     page.take(named("dies"))
     page.click("#run")
     page.until("document.querySelector('#verdict').innerText.includes('the worker ended: Uncaught Error: the end')")

@@ -38,7 +38,6 @@ def raced(page):
     same((page.focused(), page.said("#example-title")), ("example-title", "The first execution with a data race"))
     same(page.value("[...document.querySelectorAll('#picture g.least text')].map((each) => each.textContent)"), ["least racing pair"])
     same(page.said("#lines").split("\n")[-2:], ["neither happens before the other", "neither is sequentially consistent"])
-    page.picture("race")
     page.take(litmus("sb"))
     page.run()
     same(page.said("#racing"), "no execution has one")
@@ -65,7 +64,6 @@ def asked_why(page):
     same(page.value("document.querySelector('#picture svg').getAttribute('aria-label')"),
          "Why not: an attempt to meet the condition. The lines below say the same.")
     page.tab_to("save-svg")
-    page.picture("why")
     page.click("tbody tr button")
     page.drawn()
     same((page.said("#lines-title"), page.said("#lines").split(" ")[0]), ("In the report", "outcome"))

@@ -29,8 +29,6 @@ def saved(page):
             path = pathlib.Path(folder) / name
             assert wait_for(lambda: path.exists() and path.stat().st_size), f"{name} isn't saved"
             files[button] = path.read_bytes()
-            if page.shots and path.suffix != ".txt":
-                (page.shots / f"saved{path.suffix}").write_bytes(files[button])
     same(files["save-outcomes"].decode(), "test mpplain\n"
          "outcome B.r0=0 B.r1=0\noutcome B.r0=0 B.r1=1\noutcome B.r0=1 B.r1=0\noutcome B.r0=1 B.r1=1\n"
          "outcomes 4\nverdict sometimes\ndata race yes\n")
@@ -49,7 +47,6 @@ def documents(page):
     page.open_link("nav a[href$='doc/docs/MODEL.html']")
     same(page.said("h1"), "The model")
     page.until("[...document.images].length && [...document.images].every((image) => image.complete && image.naturalWidth)")
-    page.picture("model")
     page.open_link("nav a[href$='doc/litmus/README.html']")
     page.open_link("main a[href*='index.html#t=']")
     page.until("document.documentElement.dataset.ready === 'yes'")

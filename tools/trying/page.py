@@ -18,11 +18,11 @@ def unpacked(words):
 
 
 class Page(Browser):
-    """A browser with the site at an address, and a folder for pictures of it or None."""
+    """A browser with the site at an address."""
 
-    def __init__(self, site, address, shots):
+    def __init__(self, site, address):
         super().__init__()
-        self.site, self.address, self.program, self.shots = site, address, site.program, shots
+        self.site, self.address, self.program = site, address, site.program
 
     def take(self, text):
         """Writes the text as a user does, in place of the one that stands there."""
@@ -74,11 +74,6 @@ class Page(Browser):
     def rows(self):
         return self.value("[...document.querySelectorAll('tbody tr')].map((row) => [...row.cells].map((cell) => cell.innerText).join(' '))")
 
-    def picture(self, name):
-        if self.shots:
-            self.shots.mkdir(parents=True, exist_ok=True)
-            self.shot(str(self.shots / f"{name}.png"))
-
     def faults(self):
         """What went wrong in the page, and requests to anywhere else."""
         self.value("1")
@@ -88,8 +83,8 @@ class Page(Browser):
         return wrong + [url for url in asked if not url.startswith((self.address.rpartition("/")[0], "blob:"))]
 
 
-def with_page(case, site, serving, folder, shots):
-    with serving(folder) as address, contextlib.closing(Page(site, address, shots)) as page:
+def with_page(case, site, serving, folder):
+    with serving(folder) as address, contextlib.closing(Page(site, address)) as page:
         page.open(address)
         case(page)
         same(page.faults(), [])
