@@ -9,6 +9,7 @@ const http = require('http');
 const os = require('os');
 const path = require('path');
 const { spawn, spawnSync } = require('child_process');
+const { text: textOf } = require('stream/consumers');
 
 const [command, ...given] = process.argv.slice(2);
 const file = given.pop();
@@ -24,12 +25,10 @@ function serve(tell) {
   const server = http.createServer((request, response) => {
     const types = { '/': ['text/html', PAGE], '/program.js': ['text/javascript', fs.readFileSync(file)] };
     const [type, body] = request.method === 'GET' ? types[request.url] ?? ['text/plain', ''] : ['text/plain', ''];
-    const pieces = [];
-    request.on('data', (piece) => pieces.push(piece));
-    request.on('end', () => {
+    textOf(request).then((text) => {
       response.writeHead(200, { ...HEADERS, 'Content-Type': type }).end(body);
-      if (request.method === 'POST') tell(request.url, Buffer.concat(pieces).toString());
-    });
+      if (request.method === 'POST') tell(request.url, text);
+    }, () => {});
   });
   return new Promise((done) => { server.listen(0, '127.0.0.1', () => done(server)); });
 }

@@ -4,16 +4,11 @@
 // its folder.
 
 const fs = require('fs');
+const { text } = require('stream/consumers');
 const { Processes } = require('./processes.js');
 
 const [mark, folder] = process.argv.slice(2);
-let said = '';
-process.stdin.setEncoding('latin1');
-process.stdin.on('data', (piece) => {
-  said += piece;
-});
-process.stdin.on('error', () => {});
-process.stdin.on('close', () => {
+text(process.stdin).catch(() => '').then((said) => {
   if (said === 'done') return;
   new Processes(mark).end();
   if (folder !== undefined) fs.rmSync(folder, { recursive: true, force: true });

@@ -4,6 +4,7 @@
 
 const os = require('os');
 const { execFile } = require('child_process');
+const { setTimeout: pause } = require('timers/promises');
 const { namesIn, processOf, readOf } = require('./processes.js');
 
 const SPAN = 100;             // milliseconds that a sample has to span at least
@@ -27,8 +28,6 @@ function allowed() {
   });
 }
 
-const pause = (milliseconds) => new Promise((done) => { setTimeout(done, milliseconds); });
-
 // How busy each of the processors was between two samples: from 0 to 1.
 function busyBetween(before, after) {
   return new Map([...after].map(([number, { busy, all }]) => {
@@ -41,7 +40,7 @@ class Machine {
   constructor(most) {
     this.most = most;                  // runs at a time
     this.processors = allowed();
-    this.taken = new Map();            // processors by the run that has them
+    this.taken = new Set();            // processors that runs have
     this.runs = 0;
     this.ticks = ticksOf();
     this.when = Date.now();
@@ -66,7 +65,7 @@ class Machine {
         const idle = free.length - Math.round(free.reduce((sum, number) => sum + (busy.get(number) ?? 0), 0));
         if (this.runs === 0 || (this.runs < this.most && agents <= idle)) {
           const chosen = leastBusy(free, busy).slice(0, agents);
-          for (const number of chosen) this.taken.set(number, true);
+          for (const number of chosen) this.taken.add(number);
           this.runs += 1;
           return chosen;
         }
@@ -114,23 +113,16 @@ class Pinning {
     const busiest = used.sort((one, other) => other.used - one.used).slice(0, this.processors.length).filter((each) => each.used > 0);
     const chosen = new Set(busiest.map(({ thread }) => thread));
     if (busiest.length < this.processors.length) return;
-    for (const thread of [...this.pinned.keys()]) if (!chosen.has(thread)) this.release(thread);
+    for (const thread of [...this.pinned.keys()]) if (!chosen.has(thread)) this.pin(thread);
     const free = this.processors.filter((number) => ![...this.pinned.values()].includes(number));
     for (const thread of chosen) if (!this.pinned.has(thread)) this.pin(thread, free.shift());
   }
 
+  // Gives a thread this processor alone, or without one all.
   pin(thread, number) {
-    this.pinned.set(thread, number);
-    this.set(thread, String(number));
-  }
-
-  release(thread) {
-    this.pinned.delete(thread);
-    this.set(thread, this.processors.join(','));
-  }
-
-  set(thread, list) {
-    execFile('taskset', ['-cp', list, thread], () => {});
+    if (number === undefined) this.pinned.delete(thread);
+    else this.pinned.set(thread, number);
+    execFile('taskset', ['-cp', String(number ?? this.processors), thread], () => {});
   }
 }
 

@@ -4,6 +4,7 @@
 // results (of each agent, of each time {logs, value} or {logs, threw}), or null where it took too long}.
 
 const path = require('path');
+const { json } = require('stream/consumers');
 const { Worker } = require('worker_threads');
 
 const WORKER = `
@@ -57,10 +58,6 @@ async function seen({ source, times, patience }) {
   return { names, results };
 }
 
-if (require.main === module) {
-  let given = '';
-  process.stdin.setEncoding('utf8').on('data', (piece) => { given += piece; })
-    .on('end', () => seen(JSON.parse(given)).then((made) => process.stdout.write(JSON.stringify(made))));
-}
+if (require.main === module) json(process.stdin).then(seen).then((made) => process.stdout.write(JSON.stringify(made)));
 
 module.exports = { seen };
