@@ -5,15 +5,9 @@
 // The words of control that agent.js names.
 const WRONG = 3, ENDED = 4;
 
-// As large as the shared block that the scripts want.
-function sizeOf(script) {
-  return new Function(`${script}\nreturn SHARED_BYTES;`)();
-}
-
-function onNode() {
+function onNode(shared) {
   const { Worker } = require('worker_threads');
   const write = (line) => require('fs').writeSync(1, `${line}\n`);
-  const shared = new SharedArrayBuffer(sizeOf(SCRIPTS[0]));
   const fail = (agent, text) => {
     write(JSON.stringify({ wrong: `agent ${agent}: ${text}` }));
     process.exit(1);
@@ -35,17 +29,15 @@ function waitForAgents(shared, pause) {
   for (let tries = 0; tries < 50 && Atomics.load(control, ENDED) < SCRIPTS.length; tries += 1) pause(20);
 }
 
-function onSpiderMonkey() {
-  const shared = new SharedArrayBuffer(sizeOf(SCRIPTS[0]));
+function onSpiderMonkey(shared) {
   setSharedArrayBuffer(shared);
   const tail = '\nfunction say(line) { print(line); }\nwork(getSharedArrayBuffer());';
   for (const script of SCRIPTS) evalInWorker(script + tail);
   waitForAgents(shared, (milliseconds) => sleep(milliseconds / 1000));
 }
 
-function onAgentHost(agent) {
-  const shared = new SharedArrayBuffer(sizeOf(SCRIPTS[0]));
-  const host = typeof $262 === 'undefined' ? '$' : '$262';
+function onAgentHost(shared) {
+  const [host, { agent }] = typeof $262 === 'object' && $262.agent ? ['$262', $262] : ['$', $];
   const tail = `\nlet lines = [];\nfunction say(line) { lines.push(line); }
 ${host}.agent.receiveBroadcast((shared) => {
   work(shared);
@@ -62,8 +54,7 @@ ${host}.agent.receiveBroadcast((shared) => {
 }
 
 // The shell of V8: a worker's `getMessage` waits for a message, and gives nothing once the worker has ended.
-function onD8() {
-  const shared = new SharedArrayBuffer(sizeOf(SCRIPTS[0]));
+function onD8(shared) {
   const tail = `\nlet lines = [];\nfunction say(line) { lines.push(line); }
 onmessage = (message) => { work(message.data === undefined ? message : message.data); postMessage(lines.join('\\n')); };`;
   const workers = SCRIPTS.map((script) => new Worker(script + tail, { type: 'string' }));
@@ -76,8 +67,7 @@ onmessage = (message) => { work(message.data === undefined ? message : message.d
 }
 
 // A page: browser.js serves it, and takes its lines at /said and its end at /ended.
-function onPage() {
-  const shared = new SharedArrayBuffer(sizeOf(SCRIPTS[0]));
+function onPage(shared) {
   const tell = (place, text) => fetch(place, { method: 'POST', body: text });
   const tail = `\nlet lines = [];\nfunction say(line) { lines.push(line); }
 onmessage = (message) => { work(message.data); postMessage(lines.join('\\n')); };`;
@@ -90,21 +80,19 @@ onmessage = (message) => { work(message.data); postMessage(lines.join('\\n')); }
   Promise.all(SCRIPTS.map(saidBy)).then((said) => tell('/said', `${said.join('\n')}\n`)).then(() => tell('/ended', ''));
 }
 
-function onSomeHost() {
-  if (typeof process === 'object' && typeof require === 'function') onNode();
-  else if (typeof evalInWorker === 'function') onSpiderMonkey();
-  else if (typeof $262 === 'object' && $262.agent) onAgentHost($262.agent);
-  else if (typeof $ === 'object' && $.agent) onAgentHost($.agent);
-  else if (typeof document === 'object') onPage();
-  else if (typeof Worker === 'function') onD8();
-  else print(JSON.stringify({ wrong: 'this engine has no workers that are known here' }));
+// What is there, or what is wrong with this engine. What is allowed of a test that accesses a byte in several sizes is so where the lowest
+// byte comes first.
+function findHost() {
+  if (MIXES && new Uint8Array(new Uint16Array([1]).buffer)[0] !== 1) {
+    return { wrong: 'this engine is big-endian, and the test has accesses of several sizes to one byte' };
+  }
+  if (typeof process === 'object' && typeof require === 'function') return onNode;
+  if (typeof evalInWorker === 'function') return onSpiderMonkey;
+  if ((typeof $262 === 'object' && $262.agent) || (typeof $ === 'object' && $.agent)) return onAgentHost;
+  if (typeof document === 'object') return onPage;
+  return typeof Worker === 'function' ? onD8 : { wrong: 'this engine has no workers that are known here' };
 }
 
-// What is allowed of a test that accesses a byte in several sizes is so where the lowest byte comes first.
-if (MIXES && new Uint8Array(new Uint16Array([1]).buffer)[0] !== 1) {
-  const line = JSON.stringify({ wrong: 'this engine is big-endian, and the test has accesses of several sizes to one byte' });
-  if (typeof print === 'function') print(line);
-  else console.log(line);
-} else {
-  onSomeHost();
-}
+const found = findHost();
+if (found.wrong === undefined) found(new SharedArrayBuffer(new Function(`${SCRIPTS[0]}\nreturn SHARED_BYTES;`)()));
+else (typeof print === 'function' ? print : console.log)(JSON.stringify(found));
