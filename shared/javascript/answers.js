@@ -4,7 +4,7 @@
 const { Failure, plain } = require('./lines.js');
 const { KeptReport } = require('./report.js');
 const { runOf } = require('./running.js');
-const { Execution, fromWords } = require('./executions/execution.js');
+const { executionIn, fromWords } = require('./executions/execution.js');
 
 // What the program prints on a text, as a report, of which so much is kept as KeptReport says; null where it prints none, with the fault of
 // what it prints, or null.
@@ -61,9 +61,7 @@ async function tellWhy(program, words, name, data, limit = null) {
 }
 
 // What asks jslit-why for the execution with these sources and values, or gives null where no choice has them.
-const executionOf = (program, name, data) => async (sources, values, limit) => {
-  const answer = await tellWhy(program, ['--from', fromWords(sources, values)], name, data, limit);
-  return answer.execution ? new Execution(answer.execution) : null;
-};
+const executionOf = (program, name, data) => async (sources, values, limit) => (
+  executionIn(await tellWhy(program, ['--from', fromWords(sources, values)], name, data, limit)));
 
 module.exports = { executionOf, reportOf, runOf, silent, tellText, tellWhy, wholeReport };

@@ -24,10 +24,11 @@ class Execution {
   }
 }
 
-const rangeOf = ({ first, size }) => Array.from({ length: size }, (_, byte) => first + byte);
+// The execution that jslit-why's answer has, or null.
+const executionIn = ({ execution }) => (execution ? new Execution(execution) : null);
 
 // The words by which jslit-why is asked of the choice with these sources, by the names of the reads, and values of registers.
 const fromWords = (sources, values) => [...[...sources].map(([read, given]) => `${read}=${given.join(',')}`),
   ...[...values].map(([register, value]) => `${register}=${value}`)].join(' ');
 
-module.exports = { Execution, fromWords, rangeOf };
+module.exports = { Execution, executionIn, fromWords };

@@ -3,24 +3,17 @@
 // gives the JSON that jslit-why answers to some words on the text.
 
 const { Drawing } = require('./drawing.js');
-const { Execution, fromWords } = require('./execution.js');
+const { Execution, executionIn, fromWords } = require('./execution.js');
 const { whyNone } = require('./lacking.js');
 const { raceOf } = require('./reasons.js');
 const { Fault } = require('../lines.js');
 
 const subjectOf = (text, test) => ({ text, agents: test.agents.map(({ name }) => name) });
 
-async function asked(ask, sources, values) {
-  const answer = await ask(['--from', fromWords(sources, values)]);
-  return answer.execution ? new Execution(answer.execution) : null;
-}
-
 // The execution with the values of an outcome that mixes sources least; of a test without registers the one with the sources.
 async function showing(ask, sources, values) {
-  if (values.size === 0) return asked(ask, sources, values);
   const condition = [...values].map(([register, value]) => `${register} == ${value}`).join(' && ');
-  const answer = await ask(['--condition', condition]);
-  return answer.execution ? new Execution(answer.execution) : null;
+  return executionIn(await ask(values.size ? ['--condition', condition] : ['--from', fromWords(sources, values)]));
 }
 
 // An execution with an outcome, by its registers' values and the sources of the report's example. The title says where it is another.
@@ -34,7 +27,7 @@ async function example(ask, text, test, sources, values) {
 
 // The least choice that has these sources.
 async function chosen(ask, text, test, sources) {
-  const execution = await asked(ask, sources, new Map());
+  const execution = executionIn(await ask(['--from', fromWords(sources, new Map())]));
   if (execution === null) throw new Fault(whyNone(test, sources));
   const title = `${test.name}: ${[...sources].map(([read, given]) => `${read} from ${given.join(',')}`).join(', ')}`;
   const valid = execution.refusal ? `refused by ${execution.refusal.clause}` : 'valid';

@@ -2,11 +2,10 @@
 // Notes on the examples of a report in which a read mixes the bytes of several stores though nothing needs it to: another choice, in which
 // that read alone takes all its bytes from one store, or from the first zeros, is valid and has the same outcome.
 
-const { rangeOf } = require('./execution.js');
-
 const MILLISECONDS = 2000;  // for the examples of one report
 const SHOWN = 6;            // outcomes that are named beside the first
 
+const rangeOf = ({ first, size }) => Array.from({ length: size }, (_, byte) => first + byte);
 const isFirst = (source) => source.startsWith('init[');
 const FIRST = 'the first zeros';
 
