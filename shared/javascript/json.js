@@ -17,14 +17,7 @@ function parse(text, what) {
 // Cuts a JSON text: `outside` is all of it but the members of the list `outcomes`, each of which `take` is given.
 class Cutter {
   constructor(opened, take) {
-    this.opened = opened;
-    this.take = take;
-    this.outside = '';
-    this.member = '';
-    this.depth = 0;
-    this.quoted = false;
-    this.escaped = false;
-    this.listing = false;
+    Object.assign(this, { opened, take, outside: '', member: '', depth: 0, quoted: false, escaped: false, listing: false });
   }
 
   feed(text) {

@@ -69,11 +69,6 @@ async function answerRacing(question) {
   return { kind: 'racing', pairs };
 }
 
-// The notes on the examples of outcomes.
-async function answerTorn(question, { outcomes }) {
-  return { kind: 'torn', notes: await tornNotes(executionOf('jslit-why', NAME, question.text), outcomes) };
-}
-
 // The condition as the text has it, behind `check`.
 const conditionOf = (text) => codeOf(text.split('\n').find((line) => /^\s*check\b/.test(line))).trim().slice('check'.length).trim();
 
@@ -84,12 +79,6 @@ async function told(kind, question, report) {
   const outcomes = report.outcomes.map((outcome) => ({ ...outcome, meets: meets(outcome.values.map(([, value]) => value)) }));
   return { kind, condition: conditionOf(question.text), ...report.other, notes: notesOf(question.text, test), outcomes };
 }
-
-async function answerReport(question, { skip }) {
-  return { ...await told('report', question, await question.report([], { first: skip, most: PART })), skip };
-}
-
-const answerQuick = async (question) => told('quick', question, await question.report(['--quick'], { most: 2 }));
 
 // The report as the program prints it, with its examples or without.
 async function answerText(question, { examples }) {
@@ -108,11 +97,6 @@ async function answerText(question, { examples }) {
   return { kind: 'text', text: kept };
 }
 
-async function answerSchedule(question, { turns }) {
-  const { other } = await question.report(['--schedule', turns]);
-  return other.refused ? refused(question, other.refused, turns) : { kind: 'schedule', turns, ...other };
-}
-
 // The picture of an execution of a text that the program takes, with what it shows in words.
 async function pictured(question, drawingOf) {
   const { test, fault } = await question.tell();
@@ -121,20 +105,7 @@ async function pictured(question, drawingOf) {
   return { kind: 'picture', lines: drawing.lines(), ...drawing.laidOut().shapes() };
 }
 
-// The picture of an outcome's example, as the report has it.
-const answerPicture = (question, { from, values }) => (
-  pictured(question, (ask, text, test) => scenes.example(ask, text, test, new Map(from), new Map(values))));
-
-// The picture of an attempt at an outcome that meets the condition, or that doesn't.
-const answerWhy = (question, { unmet }) => pictured(question, (ask, text, test) => scenes.attempt(ask, text, test, unmet));
-
-// The picture of the first execution with a data race.
-const answerRace = (question) => pictured(question, scenes.race);
-
-// What the exploring of JavaScript asks of a text: the values of all outcomes, or the number of a refusal.
-const answerValues = async (question) => ({ kind: 'values', ...valuesIn(await question.report([], VALUES)) });
-
-// The same of an execution, with these sources or any: what jslit-why says.
+// What the exploring of JavaScript asks of an execution, with these sources or any: what jslit-why says.
 async function answerExecution(question, { sources }) {
   try {
     return { kind: 'execution', why: await question.ask(sources === '' ? [] : ['--from', sources]) };
@@ -144,10 +115,24 @@ async function answerExecution(question, { sources }) {
   }
 }
 
-// Each kind with what answers it.
+// Each kind with what answers it: `picture` draws an outcome's example, as the report has it, `why` an attempt at an outcome that meets the
+// condition, or that doesn't. `values` are those of all outcomes, or the number of a refusal, for the exploring of JavaScript.
 const ANSWERS = {
-  report: answerReport, quick: answerQuick, schedule: answerSchedule, text: answerText, racing: answerRacing, torn: answerTorn,
-  picture: answerPicture, why: answerWhy, race: answerRace, values: answerValues, execution: answerExecution,
+  report: async (question, { skip }) => ({ ...await told('report', question, await question.report([], { first: skip, most: PART })), skip }),
+  quick: async (question) => told('quick', question, await question.report(['--quick'], { most: 2 })),
+  schedule: async (question, { turns }) => {
+    const { other } = await question.report(['--schedule', turns]);
+    return other.refused ? refused(question, other.refused, turns) : { kind: 'schedule', turns, ...other };
+  },
+  text: answerText,
+  racing: answerRacing,
+  torn: async ({ text }, { outcomes }) => ({ kind: 'torn', notes: await tornNotes(executionOf('jslit-why', NAME, text), outcomes) }),
+  picture: (question, { from, values }) => (
+    pictured(question, (ask, text, test) => scenes.example(ask, text, test, new Map(from), new Map(values)))),
+  why: (question, { unmet }) => pictured(question, (ask, text, test) => scenes.attempt(ask, text, test, unmet)),
+  race: (question) => pictured(question, scenes.race),
+  values: async (question) => ({ kind: 'values', ...valuesIn(await question.report([], VALUES)) }),
+  execution: answerExecution,
 };
 
 async function answer({ kind, given, text }) {

@@ -57,15 +57,12 @@ function sayStopped(told, kind, quick) {
 // An order in which first zeros that stand in a row are one word.
 function folded(order) {
   const words = [];
-  let run = null;
   for (const name of order) {
-    const byte = Number(/^init\[(\d+)\]$/.exec(name)?.[1] ?? NaN);
-    if (run !== null && byte === run.last + 1) run.last = byte;
-    else words.push(run = Number.isNaN(byte) ? null : { first: byte, last: byte });
-    if (run === null) words[words.length - 1] = name;
+    const byte = Number(/^init\[(\d+)\]$/.exec(name)?.[1]);
+    if (byte === words.at(-1)?.last + 1) words.at(-1).last = byte;
+    else words.push({ name, first: byte, last: byte });
   }
-  return words.map((word) => (typeof word === 'string' ? word
-    : word.first === word.last ? `init[${word.first}]` : `init[${word.first}..${word.last}]`));
+  return words.map(({ name, first, last }) => (last > first ? `init[${first}..${last}]` : name));
 }
 
 // The lines of an outcome as the report has them, with the order folded.

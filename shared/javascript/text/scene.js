@@ -26,12 +26,7 @@ function agentOf(line) {
 // `lines` are those of the text as it was given. What `register` has given stays so: a name has one register.
 class Scene {
   constructor(lines) {
-    this.lines = lines;
-    this.agents = [];
-    this.owners = [];
-    this.used = new Map();
-    this.own = new Map();
-    this.given = new Map();
+    Object.assign(this, { lines, agents: [], owners: [], used: new Map(), own: new Map(), given: new Map() });
     for (const line of lines) this.take(codeOf(line));
     this.cells = new Cells(lines);
   }

@@ -62,9 +62,7 @@ function operation(match) {
 // Where a line stands: the scene of its text, and its number; `comments` say which cells the names on the line have.
 class Place {
   constructor(scene, number) {
-    this.scene = scene;
-    this.number = number;
-    this.comments = [];
+    Object.assign(this, { scene, number, comments: [] });
   }
 
   // The load in a register that is free.

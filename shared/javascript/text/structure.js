@@ -40,9 +40,6 @@ class Shape {
   }
 }
 
-const agentsLine = (before) => (before.test
-  ? 'a text begins with one line `test NAME`, and has no other' : 'the first line is `test NAME`, and the second `bytes N`');
-
 function unopened(lines, number) {
   const early = lines.slice(0, number - 1).flatMap((line, at) => (wordsOf(line).join(' ') === '}' ? [at + 1] : []));
   const last = early[early.length - 1];
@@ -57,7 +54,8 @@ function misplaced(lines, number) {
   const open = before.innermost();
   const said = () => {
     if (before.check) return `the check on line ${before.check} is the last line: join conditions by \`&&\` and \`||\` in one check`;
-    if (words[0] === 'test' || !before.test) return agentsLine(before);
+    if (!before.test) return 'the first line is `test NAME`, and the second `bytes N`';
+    if (words[0] === 'test') return 'a text begins with one line `test NAME`, and has no other';
     if (words[0] === 'bytes') return '`bytes N` stands once, on the line after `test`';
     if (before.size === null) return 'the line after `test` is `bytes N`, the size of the block: it is missing';
     if ((words[0] === 'agent' || words[0] === 'check') && open) {
@@ -91,14 +89,6 @@ function braceAlone(lines, number) {
 }
 
 const wordColumn = (line, place) => tokensOf(line)[place].column;
-
-const blockSize = (lines, number) => ({
-  column: wordColumn(lines[number - 1], 1), said: `a block has 1 to ${limits.block} bytes: few cells are enough, put them side by side`,
-});
-
-const tooManyAgents = () => ({
-  column: null, said: `a test has ${limits.agents} agents at most: let one agent do what two do, one after the other`,
-});
 
 function duplicateAgent(lines, number) {
   const name = wordsOf(lines[number - 1])[1];
@@ -236,11 +226,14 @@ function notAscii(lines, number) {
   return { column, said: `${named} is no ASCII, and may not stand in a comment either${what}` };
 }
 
-const tooLong = () => ({ column: null, said: `the text has more than ${limits.text} bytes: leave out comments and blanks` });
-
 const ADVICE = {
-  1: tooLong, 2: notAscii, 4: misplaced, 5: blockSize, 6: tooManyAgents, 7: duplicateAgent, 8: literalRange, 9: outOfBlock, 10: unknownName,
-  11: tooDeep, 12: missingPart,
+  1: () => ({ column: null, said: `the text has more than ${limits.text} bytes: leave out comments and blanks` }),
+  2: notAscii, 4: misplaced,
+  5: (lines, number) => ({
+    column: wordColumn(lines[number - 1], 1), said: `a block has 1 to ${limits.block} bytes: few cells are enough, put them side by side`,
+  }),
+  6: () => ({ column: null, said: `a test has ${limits.agents} agents at most: let one agent do what two do, one after the other` }),
+  7: duplicateAgent, 8: literalRange, 9: outOfBlock, 10: unknownName, 11: tooDeep, 12: missingPart,
 };
 
 module.exports = { ADVICE, asciiOf, braceAlone, instead };
