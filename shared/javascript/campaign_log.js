@@ -4,8 +4,7 @@
 // but that it failed before is kept.
 
 const fs = require('fs');
-const { Failure } = require('./command.js');
-const { plain } = require('./lines.js');
+const { Failure, plain } = require('./lines.js');
 const { RESULTS, faultOf, lineOf, placeOf } = require('./record.js');
 
 const TRIED = ['allowed', 'not allowed'];

@@ -7,14 +7,15 @@ const path = require('path');
 const { TOP, run } = require('./command.js');
 const { Failure, plain } = require('./lines.js');
 const { readOptions } = require('./options.js');
+const { inOrder } = require('./pool.js');
 const { builtProgram, namedProgram } = require('./programs.js');
 const { FIELDS, Runs, printedName, spoken, write } = require('./runs.js');
 const { pathOf, shown } = require('./system.js');
 const { filesIn } = require('./tests_in.js');
 
-// A text without what XML can't have, however it is written.
-const clean = (text) => String(text).replace(/[\0-\x08\x0b\x0c\x0e-\x1f\ud800-\udfff\ufffe\uffff]/gu, '?');
-const escape = (text) => clean(text).replace(/&/g, '&amp;').replace(/>/g, '&gt;').replace(/</g, '&lt;');
+// A text as XML has it, without what it can't have, however it is written.
+const escape = (text) => String(text).replace(/[\0-\x08\x0b\x0c\x0e-\x1f\ud800-\udfff\ufffe\uffff]/gu, '?')
+  .replace(/&/g, '&amp;').replace(/>/g, '&gt;').replace(/</g, '&lt;');
 
 const attribute = (text) => `"${escape(text).replace(/[\n\r\t"]/g, (sign) => `&#${sign.charCodeAt(0)};`)}"`;
 
@@ -90,7 +91,7 @@ async function main(given) {
   if (words.junit?.endsWith('.lit')) throw new Failure(2, `--junit ${plain(words.junit)}: that would overwrite a test`);
   const junit = words.junit ? new Junit(words.junit) : null;
   const paths = words.paths.length ? words.paths : [path.join(TOP, 'litmus')];
-  return told(runs.results(filesIn(paths), words.jobs), words, junit);
+  return told(inOrder(filesIn(paths), words.jobs, (file) => runs.result(file)), words, junit);
 }
 
 run('jslit-check', main, { isQuiet: true });

@@ -23,7 +23,7 @@ function collect(child, limits, endAt) {
       bytes += piece.length;
       if (bytes > limits.output * MEGABYTE) endAt(`it printed more than ${limits.output} MB`);
       else output.take(piece);
-      if (output.hasTooManyWords()) endAt(`it printed more than ${WORDS} lines that begin with {`);
+      if (output.words.length > WORDS) endAt(`it printed more than ${WORDS} lines that begin with {`);
     });
   }
   return outputs;

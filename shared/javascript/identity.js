@@ -5,8 +5,7 @@ const crypto = require('crypto');
 const fs = require('fs');
 const os = require('os');
 const path = require('path');
-const { Failure } = require('./command.js');
-const { plain } = require('./lines.js');
+const { Failure, plain } = require('./lines.js');
 
 const BROWSER = /^(?:chromium|chrome|google-chrome)(?:-|$)/;
 const VERSION_SECONDS = 5;   // that an engine has to say its version

@@ -4,8 +4,7 @@
 
 const fs = require('fs');
 const path = require('path');
-const { Failure } = require('./command.js');
-const { plain } = require('./lines.js');
+const { Failure, plain } = require('./lines.js');
 const { placeOf, runOf } = require('./programs.js');
 
 const SECONDS = 60, LINES = 60, MOST = 4;   // for an answer; lines of one; outcomes that are asked for

@@ -73,10 +73,6 @@ class Output {
     return this;
   }
 
-  hasTooManyWords() {
-    return this.words.length > WORDS;
-  }
-
   // What is kept of the whole, with a line between beginning and end where there was more.
   kept() {
     if (this.end === '') return this.beginning;

@@ -94,15 +94,11 @@ class ReportReader {
     }
     begin();
     const ends = { count: Number(this.match(line, 'outcomes', '`outcome` or `outcomes`')[1]) };
-    ends.verdict = this.verdict(yield);
+    ends.verdict = this.match(yield, 'verdict', '`verdict`')[1];
     const race = yield;
     if (race === null) return this.give({ ends });
     ends.data_race = this.match(race, 'race', '`data race` or the end')[1] === 'yes';
     return yield* this.last({ ends });
-  }
-
-  verdict(line) {
-    return this.match(line, 'verdict', '`verdict`')[1];
   }
 
   * example(values) {
@@ -123,7 +119,7 @@ class ReportReader {
       all[name] = line.endsWith(' none') ? null : yield* this.example(this.values(found[1] || ''));
     }
     all.registers = this.registers || [];
-    all.verdict = this.verdict(yield);
+    all.verdict = this.match(yield, 'verdict', '`verdict`')[1];
     return yield* this.last({ all });
   }
 
@@ -167,9 +163,8 @@ class KeptReport {
   }
 
   giveAll(all) {
-    if (all.kind === 'refusal') {
-      this.other.refused = `refused ${all.number} ${all.name}${all.line === undefined ? '' : ` line ${all.line}`}`;
-    } else if (all.kind === 'schedule') {
+    if (all.kind === 'refusal') [this.other.refused] = LINES_OF_ALL.refusal(all);
+    else if (all.kind === 'schedule') {
       this.registers = all.registers;
       Object.assign(this.other, { test: all.test, interleaving: paired(all.registers, all.values), meets: all.meets ? 'yes' : 'no' });
     } else if (all.kind === 'quick') {
@@ -239,13 +234,6 @@ function outcomeLines(head, registers, outcome) {
 // Anything but true and false makes a line that is none of a report.
 const yesNo = (truth) => (truth === true ? 'yes' : truth === false ? 'no' : JSON.stringify(truth));
 
-// The last lines of a report; those of earlier versions of the program say nothing of data races.
-function lastLines(ends) {
-  const lines = [`outcomes ${ends.count}`, `verdict ${ends.verdict}`];
-  if (ends.data_race !== undefined) lines.push(`data race ${yesNo(ends.data_race)}`);
-  return lines;
-}
-
 const LINES_OF_ALL = {
   empty: () => [],
   refusal: (all) => [`refused ${all.number} ${all.name}${all.line === undefined ? '' : ` line ${all.line}`}`],
@@ -261,7 +249,11 @@ const LINES_OF_ALL = {
 function linesOf(part, registers) {
   if (part.begins) return [`test ${part.begins.test}`];
   if (part.outcome) return outcomeLines('outcome', registers, part.outcome);
-  if (part.ends) return lastLines(part.ends);
+  if (part.ends) {
+    // Those of earlier versions of the program say nothing of data races.
+    const { count, verdict, data_race: race } = part.ends;
+    return [`outcomes ${count}`, `verdict ${verdict}`, ...(race === undefined ? [] : [`data race ${yesNo(race)}`])];
+  }
   if (!Object.hasOwn(LINES_OF_ALL, part.all.kind)) throw new Fault(`no kind of report: ${JSON.stringify(part.all.kind)}`);
   return LINES_OF_ALL[part.all.kind](part.all);
 }

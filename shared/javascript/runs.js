@@ -6,7 +6,6 @@ const path = require('path');
 const { bytesIn, TOP } = require('./command.js');
 const limits = require('../limits.json');
 const { notesOfReport, reported } = require('./noting.js');
-const { inOrder } = require('./pool.js');
 const { testIn } = require('./programs.js');
 const { runOf } = require('./running.js');
 const { pathOf, statusOf, strerror } = require('./system.js');
@@ -81,11 +80,6 @@ class Runs {
     Object.assign(this, { program, limit }, wanted);
   }
 
-  // A result for each file, in their order, so many runs at a time.
-  results(files, jobs) {
-    return inOrder(files, jobs, (file) => this.result(file));
-  }
-
   async result(file) {
     const result = new Result(file);
     const unread = faultOf(file);
@@ -100,16 +94,17 @@ class Runs {
     const expected = [...text.matchAll(EXPECT)].map(([, stated]) => stated);
     result.test = NAME.exec(text)?.[1];
     const fault = await this.run(data, result);
-    if (this.notes && !fault && !file.endsWith('.js')) result.notes = await this.noted(data);
+    if (this.notes && !fault && !file.endsWith('.js')) {
+      const outcomes = await reported(this.program, [], data, this.limit * 1000);
+      result.notes = await notesOfReport(data, await testIn('the text', data), outcomes);
+    }
     if (fault && expected.length === 0) return result.fails(fault);
     const wanted = expected.length === 1 ? FORM.exec(expected[0]) : null;
     if (expected.length ? !wanted : this.isStated) return result.fails("no line '// expect: verdict V, outcomes N, data race R'");
     if (fault) return result.fails(fault);
-    return wanted ? compare(result, wanted) : this.look(file, text, result);
-  }
-
-  async noted(data) {
-    return notesOfReport(data, await testIn('the text', data), await reported(this.program, [], data, this.limit * 1000));
+    if (wanted) return compare(result, wanted);
+    result.result = 'seen';
+    return this.records ? recorded(file, text, result) : result;
   }
 
   // Runs the program on a text; what is wrong, or null.
@@ -136,11 +131,6 @@ class Runs {
     if (statusOf(run) || !answer) return `status ${statusOf(run)}, ${printedName(said || 'no report')}`;
     Object.assign(result, { outcomes: Number(answer[1]), verdict: answer[2], data_race: answer[3] });
     return null;
-  }
-
-  look(file, text, result) {
-    result.result = 'seen';
-    return this.records ? recorded(file, text, result) : result;
   }
 }
 

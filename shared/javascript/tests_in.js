@@ -4,8 +4,7 @@
 
 const fs = require('fs');
 const path = require('path');
-const { Failure } = require('./command.js');
-const { plain } = require('./lines.js');
+const { Failure, plain } = require('./lines.js');
 const { pathOf, wordOf } = require('./system.js');
 
 const joined = (folder, name) => (folder.endsWith('/') ? folder + name : `${folder}/${name}`);

@@ -3,8 +3,7 @@
 
 const os = require('os');
 const path = require('path');
-const { Failure } = require('../command.js');
-const { plain } = require('../lines.js');
+const { Failure, plain } = require('../lines.js');
 const { limited } = require('../pool.js');
 const { builtProgram, findProgram } = require('../programs.js');
 const { KeptReport, VALUES, valuesIn } = require('../report.js');
@@ -26,28 +25,24 @@ class Asked {
 
   // The path of a program, found once.
   program(name) {
-    this.found[name] ??= this.find[name]();
-    return this.found[name];
+    return (this.found[name] ??= this.find[name]());
   }
 
   // The report on a text; with words for jslit-why what that says.
   async ask({ text, why }) {
-    if (why === undefined) return reportOf(await this.turn('jslit', [], text));
-    const printed = await this.turn('jslit-why', ['--json', ...why], text);
+    if (why === undefined) return reportOf(await this.printed('jslit', [], text));
+    const printed = await this.printed('jslit-why', ['--json', ...why], text);
     if (printed.startsWith('{')) return { why: JSON.parse(printed) };
     if (!printed.startsWith('refused ')) throw new Failure(70, 'jslit-why gave no answer');
     return { why: { refused: printed.trim() } };
   }
 
-  turn(name, words, text) {
-    return this.limited(async () => {
+  async printed(name, words, text) {
+    const program = await this.program(name);
+    const run = await this.limited(() => {
       this.count += 1;
-      return this.printed(await this.program(name), words, text);
+      return runOf(program, words, text, { limit: this.limit * 1000 });
     });
-  }
-
-  async printed(program, words, text) {
-    const run = await runOf(program, words, text, { limit: this.limit * 1000 });
     if (run.late) throw new Failure(5, `the program gave no report on a text within ${this.limit} seconds (--limit)`);
     if (run.status === 3) throw new Failure(3, 'the program ran out of memory');
     if (run.signal || (run.status !== 0 && run.status !== 1)) {

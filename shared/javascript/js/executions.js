@@ -69,14 +69,10 @@ class Executions {
     return { ...own(step), ...(step.from ? { from: step.from.map(own) } : {}) };
   }
 
-  straight(ways, kept) {
-    return new Straight(this.name, this.trees, ways, kept);
-  }
-
-  // The same, or null where it has more bytes than a text may have.
+  // A way of each agent as a text, or null where it has more bytes than a text may have.
   within(ways) {
     try {
-      return this.straight(ways);
+      return new Straight(this.name, this.trees, ways);
     } catch (error) {
       if (!(error instanceof Limit)) throw error;
       return null;
@@ -103,7 +99,7 @@ class Executions {
   async ofMoves(moves, areRacing = false) {
     const { ways, order } = traced(this.trees, moves);
     const racing = areRacing ? order.slice(-2) : null;
-    const straight = this.straight(ways, racing ? racing.map(({ event }) => event) : []);
+    const straight = new Straight(this.name, this.trees, ways, racing ? racing.map(({ event }) => event) : []);
     const told = await this.why(straight.text, ['--from', straight.from(order)]);
     if (!told.execution?.order || !this.reads(straight, told.execution)) return null;
     const pair = racing?.map((step) => straight.nameOf(step));

@@ -2,7 +2,7 @@
 // A file's code with marks: heads of loops tell the state that a turn leaves behind, functions and classes how what they close
 // over is looked at. Lines stay as they are. What no run could tell is refused here.
 
-const { CLASSES, FUNCTIONS, LOOPS, Scopes, namesIn, walk } = require('./scopes.js');
+const { CLASSES, FUNCTIONS, LOOPS, Scopes, contains, namesIn, walk } = require('./scopes.js');
 const { deadAt } = require('./liveness.js');
 const { parse } = require('./parse.js');
 const { Refusal } = require('./refusal.js');
@@ -110,7 +110,7 @@ class Marks {
     const own = node.init?.type === 'VariableDeclaration' && node.init.kind !== 'var'
       ? node.init.declarations.flatMap((each) => namesIn(each.id)) : [];
     const names = [...this.scopes.freeIn(node)].filter(([name, scope]) => scope !== null && !dead.has(name)).map(([name]) => name);
-    const state = getters([...new Set([...names, ...own]), ...(this.usesThis(node) ? ['this'] : [])]);
+    const state = getters([...new Set([...names, ...own]), ...(contains(node, ['ThisExpression', 'Super']) ? ['this'] : [])]);
     const id = `__loop${this.loops += 1}`;
     const head = `${id}(${state})`;
     const labels = [];
@@ -120,12 +120,6 @@ class Marks {
     if (node.type === 'DoWhileStatement') this.edits.around(node.body, `{${head};`, '}', node.body.end - node.body.start + 0.25);
     else if (node.test) this.edits.around(node.test, `(${head},`, ')', node.test.end - node.test.start + 0.25);
     else this.edits.put(this.source.indexOf(';', node.init ? node.init.end : node.start) + 1, `${head},true`);
-  }
-
-  usesThis(node) {
-    let found = false;
-    walk.full(node, (each) => { found ||= each.type === 'ThisExpression' || each.type === 'Super'; });
-    return found;
   }
 
   // Imports of what there is become calls of `require`; exports are left out.

@@ -2,13 +2,7 @@
 // Variables that are dead at the head of a loop: each turn assigns them before it reads them, whatever way it goes, and so does
 // what comes after the loop. A variable is taken for alive wherever that isn't plain from the syntax.
 
-const { FUNCTIONS, LOOPS, childrenOf, walk } = require('./scopes.js');
-
-const contains = (node, types) => {
-  let found = false;
-  walk.full(node, (each) => { found ||= types.includes(each.type); });
-  return found;
-};
+const { FUNCTIONS, LOOPS, childrenOf, contains, walk } = require('./scopes.js');
 
 // A way through a loop, in the order of evaluation: `assigned` are the names that every way up to here has assigned, and `alive`
 // collects those that may be read, or left behind, before that.
@@ -96,10 +90,6 @@ Way.ACTS = {
     way.go(left);
     way.perhaps(() => way.go(right));
   },
-  ConditionalExpression(way, { test, consequent, alternate }) {
-    way.go(test);
-    way.either(consequent, alternate);
-  },
   ChainExpression: (way, node) => way.perhaps(() => way.list(childrenOf(node))),
   IfStatement(way, { test, consequent, alternate }) {
     way.go(test);
@@ -121,6 +111,7 @@ Way.ACTS = {
   ReturnStatement: (way, { argument }) => argument && way.go(argument),
   LabeledStatement: (way, { body }) => way.go(body),
 };
+Way.ACTS.ConditionalExpression = Way.ACTS.IfStatement;
 for (const type of LOOPS) Way.ACTS[type] = (way, node) => way.inner(node);
 
 // The names in a pattern that is assigned: only where it has no defaults and no properties to work out.
@@ -135,14 +126,14 @@ function deadAt(loop, owner, scopes) {
   const local = [...scopes.freeIn(loop)].filter(([name, scope]) => scope !== null && isLocal(name, scope, owner, scopes))
     .map(([name]) => name);
   const way = new Way(local, loop.type === 'WhileStatement');
-  const isEndless = !loop.test || (loop.test.type === 'Literal' && Boolean(loop.test.value));
-  if (loop.type === 'DoWhileStatement') way.list([loop.body, loop.test]);
-  else if (!isEndless) {
+  const isBodyFirst = loop.type === 'DoWhileStatement';
+  const isEndless = !isBodyFirst && (!loop.test || (loop.test.type === 'Literal' && Boolean(loop.test.value)));
+  if (isBodyFirst) way.go(loop.body);
+  if (!isEndless) {
     way.go(loop.test);
     way.leave();
-    way.perhaps(() => way.list([loop.body, loop.update]));
-  } else way.perhaps(() => way.list([loop.body, loop.update]));
-  if (loop.type === 'DoWhileStatement') way.leave();
+  }
+  if (!isBodyFirst) way.perhaps(() => way.list([loop.body, loop.update]));
   return new Set(local.filter((name) => !way.alive.has(name)));
 }
 

@@ -19,6 +19,13 @@ function namesIn(pattern) {
   }
 }
 
+// Whether a node has one of these types in it.
+function contains(node, types) {
+  let found = false;
+  walk.full(node, (each) => { found ||= types.includes(each.type); });
+  return found;
+}
+
 const childrenOf = (node) => Object.values(node).flat().filter((child) => child && typeof child.type === 'string');
 
 class Scope {
@@ -105,4 +112,4 @@ function isPlainName(parent, child) {
   return ['ExportSpecifier', 'MetaProperty'].includes(parent.type);
 }
 
-module.exports = { CLASSES, FUNCTIONS, LOOPS, Scopes, childrenOf, namesIn, walk };
+module.exports = { CLASSES, FUNCTIONS, LOOPS, Scopes, childrenOf, contains, namesIn, walk };

@@ -124,10 +124,6 @@ class Execution {
     for (const sources of products(lists)) if (this.isValid(sources) && holds(sources)) return true;
     return false;
   }
-
-  someIsValid() {
-    return this.some(() => true);
-  }
 }
 
 // The texts of the outcomes that the model allows, of agents given by `runs`; `tell` gives an outcome's text of its ways.
@@ -135,7 +131,7 @@ function outcomesOf(runs, domain, initial, tell, most = 6) {
   const found = new Set();
   for (const ways of products(runs.map((run) => waysOf(run, domain, most)))) {
     const text = tell(ways);
-    if (!found.has(text) && new Execution(ways, initial).someIsValid()) found.add(text);
+    if (!found.has(text) && new Execution(ways, initial).some(() => true)) found.add(text);
   }
   return found;
 }
