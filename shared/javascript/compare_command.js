@@ -27,9 +27,10 @@ const textsIn = (names) => names.map((name) => [name, readText(name)]);
 // What two texts are, each beside its file's name: `found`, and the lines that say why.
 async function compared(program, limit, texts) {
   const [before, after] = [await outcomesOf(program, limit, ...texts[0]), await outcomesOf(program, limit, ...texts[1])];
-  const only = [[before, after], [after, before]]
-    .map(([one, other]) => [one.name, one.registers.filter((each) => !other.registers.includes(each))]).filter(([, registers]) => registers.length)
-    .map(([name, registers]) => `${plain(name)} alone has the register${registers.length > 1 ? 's' : ''} ${registers.join(', ')}`);
+  const only = [[before, after], [after, before]].flatMap(([one, other]) => {
+    const registers = one.registers.filter((each) => !other.registers.includes(each));
+    return registers.length ? [`${plain(one.name)} alone has the register${registers.length > 1 ? 's' : ''} ${registers.join(', ')}`] : [];
+  });
   if (only.length) return { found: 'differ', lines: [`the registers differ: ${only.join('; ')}`] };
   const added = [...after.lines].filter(([values]) => !before.lines.has(values)).map(([, lines]) => lines);
   const found = added.length ? 'not allowed' : 'allowed';

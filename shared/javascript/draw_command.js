@@ -25,7 +25,8 @@ function sourcesOf(words) {
 async function outcomeOf(program, name, data, test, number) {
   const { outcomes } = await wholeReport(program, [], name, data, { most: Infinity });
   const meets = meetsOf(test);
-  const found = number === undefined ? outcomes.find(({ values }) => meets(values.map(([, value]) => value))) : outcomes[Number(number) - 1];
+  const found = number === undefined ? outcomes.find(({ values }) => meets(values.map(([, value]) => value)))
+    : outcomes[Number(number) - 1];
   if (found) return found;
   if (number !== undefined) throw new Fault(`the report has the outcomes 1 to ${outcomes.length}`);
   throw new Fault(`no outcome meets the condition; draw one of the outcomes 1 to ${outcomes.length}, or use --why`);

@@ -122,7 +122,8 @@ function failed(name) {
   } catch (error) {
     const stored = path.join(TOP, 'litmus', path.basename(name));
     const near = [`${name}.lit`, stored, `${stored}.lit`].find((other) => fs.statSync(other, { throwIfNoEntry: false })?.isFile());
-    const meant = error.code === 'EISDIR' ? '; jslit-check runs all tests of a folder' : near ? `; did you mean ${plain(path.relative('.', near))}?` : '';
+    const meant = error.code === 'EISDIR' ? '; jslit-check runs all tests of a folder'
+      : near ? `; did you mean ${plain(path.relative('.', near))}?` : '';
     say(`${plain(name)}: ${strerror(error)}${meant}`);
   }
 }

@@ -16,7 +16,7 @@ const { readOptions } = require('./options.js');
 const { strerror } = require('./system.js');
 
 const CHILD = path.join(__dirname, 'js', 'child.js');
-const READ = [path.join(TOP, 'shared', 'javascript', '*'), path.join(TOP, 'shared', 'limits.json'), '/usr/share/nodejs/*', '/usr/lib/nodejs/*'];
+const READ = [`${TOP}/shared/javascript/*`, `${TOP}/shared/limits.json`, '/usr/share/nodejs/*', '/usr/lib/nodejs/*'];
 const MEMORY = 512;        // MB of the code's heap
 const SILENCE = 2000;      // milliseconds before there is a sign of life
 

@@ -13,9 +13,10 @@ TOOLS = pathlib.Path(__file__).resolve().parent.parent
 sys.path.insert(0, str(TOOLS))
 from installing.place import LIST, New, Place  # noqa: E402
 
-ONE = {"lib/jslit/bin/a": "#!/bin/sh\n", "lib/jslit/litmus/x.lit": "x", "lib/jslit/shared/old.py": "old", "bin/a": "-> ../lib/jslit/bin/a", "share/a.1": "1"}
-TWO = {"lib/jslit/bin/a": "#!/bin/sh -\n", "lib/jslit/litmus/x.lit": "y", "lib/jslit/new/deep/n.py": "new", "bin/a": "-> ../lib/jslit/bin/a",
-       "bin/b": "-> ../lib/jslit/bin/a", "share/a.1": "2"}
+LINK = "-> ../lib/jslit/bin/a"
+ONE = {"lib/jslit/bin/a": "#!/bin/sh\n", "lib/jslit/litmus/x.lit": "x", "lib/jslit/shared/old.py": "old", "bin/a": LINK, "share/a.1": "1"}
+TWO = {"lib/jslit/bin/a": "#!/bin/sh -\n", "lib/jslit/litmus/x.lit": "y", "lib/jslit/new/deep/n.py": "new", "bin/a": LINK, "bin/b": LINK,
+       "share/a.1": "2"}
 OPERATIONS = ("mkdir", "chmod", "rename", "replace", "symlink", "unlink", "rmdir", "remove")
 
 
@@ -56,7 +57,8 @@ def carried_out(prefix, files, last):
         Counter(last)
         place = Place(prefix)
         if files:
-            place.install({name: New(link=text[3:]) if text.startswith("-> ") else New(text.encode(), text.startswith("#!")) for name, text in files.items()}, "0")
+            new = {name: New(link=text[3:]) if text == LINK else New(text.encode(), text.startswith("#!")) for name, text in files.items()}
+            place.install(new, "0")
         elif place.is_there:
             place.remove()
         os._exit(0)
@@ -73,7 +75,8 @@ def is_cut_off(top, prefix, first, files, last):
     for then in (TWO, None):
         shutil.rmtree(top, ignore_errors=True)
         (top / "home").mkdir(parents=True)
-        before, name = texts_in(top), f"{prefix.relative_to(top)}, {'upgrade' if first and files else 'install' if files else 'remove'}, operation {last}"
+        before, what = texts_in(top), "upgrade" if first and files else "install" if files else "remove"
+        name = f"{prefix.relative_to(top)}, {what}, operation {last}"
         if first:
             carried_out(prefix, first, 0)
         if carried_out(prefix, files, last):

@@ -73,10 +73,9 @@ class Place:
 
     def earlier_list(self, told):
         """A list of before it had digests: all that it names, and the whole tree, is as it was put."""
-        named = [pathlib.Path(name).relative_to(self.prefix) for name in told["files"] if pathlib.Path(name).is_relative_to(self.prefix)]
-        names = [*map(str, named), *self.in_tree()]
-        folders = [str(pathlib.Path(name).relative_to(self.prefix)) for name in told["folders"] if pathlib.Path(name).is_relative_to(self.prefix)]
-        digests = {name: digest_of(self.prefix / name) for name in names}
+        files, folders = ([str(path.relative_to(self.prefix)) for path in map(pathlib.Path, told[kind]) if path.is_relative_to(self.prefix)]
+                          for kind in ("files", "folders"))
+        digests = {name: digest_of(self.prefix / name) for name in [*files, *self.in_tree()]}
         return {"files": {name: [digest] for name, digest in digests.items() if digest}, "folders": folders}
 
     def in_tree(self):
@@ -129,7 +128,8 @@ class Place:
 
     def write_list(self, version):
         """The list, and for a first installation all folders above it, appear at once."""
-        told = {"form": FORM, "version": version, "prefix": str(self.prefix), "above": self.above, "folders": self.folders, "files": self.files}
+        told = {"form": FORM, "version": version, "prefix": str(self.prefix), "above": self.above, "folders": self.folders,
+                "files": self.files}
         data, path = json.dumps(told, indent=1).encode() + b"\n", self.prefix / LIST
         first = next((folder for folder in [*reversed(path.parents)] if not folder.is_dir()), None)
         if first is None:

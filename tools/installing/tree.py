@@ -8,9 +8,9 @@ from installing.place import TREE, New
 from litmus.program import TOP, version
 
 # What the commands need of the repository.
-NEEDED = ["bin", "shared", "litmus", "editors", "docs/COMMANDS.md", "docs/ENGINES.md", "docs/FORMAT.md", "docs/JAVASCRIPT.md",
-          "docs/MODEL.md", "docs/GLOSSARY.md", "docs/PAGE.md", "docs/TUTORIAL.md", "docs/schemas", "docs/help", "docs/mp.svg", "docs/sb.svg",
-          "docs/sb-refused.svg", "docs/tear.svg", "docs/page.png", "README.md", "CHANGELOG.md", "CITATION.cff", "LICENSE-APACHE", "LICENSE-MIT"]
+NEEDED = ["bin", "shared", "litmus", "editors", "README.md", "CHANGELOG.md", "CITATION.cff", "LICENSE-APACHE", "LICENSE-MIT",
+          *(f"docs/{name}.md" for name in ("COMMANDS", "ENGINES", "FORMAT", "JAVASCRIPT", "MODEL", "GLOSSARY", "PAGE", "TUTORIAL")),
+          *(f"docs/{name}" for name in ("schemas", "help", "mp.svg", "sb.svg", "sb-refused.svg", "tear.svg", "page.png"))]
 
 
 def files_of(name):

@@ -206,7 +206,8 @@ WHOLE = [
     ("test t\nbytes 4\n" + A + "U8[0] = 1\n", 4, "none does"),
     ("test t\nbytes 4\n" + "".join(f"agent a{n}\n" for n in range(LIMITS["agents"] + 1)) + "check a0.r0 == 0\n", LIMITS["agents"] + 3,
      f"a test has {LIMITS['agents']} agents at most"),
-    ("test t\nbytes 4\n" + A + LOADS + "if r0 == 0 {\n" * 9 + "}\n" * 9 + "check A.r0 == 0\n", 13, "8 ifs can be open, here those on lines 5, 6"),
+    ("test t\nbytes 4\n" + A + LOADS + "if r0 == 0 {\n" * 9 + "}\n" * 9 + "check A.r0 == 0\n", 13,
+     "8 ifs can be open, here those on lines 5, 6"),
     ("test t\n" + "\n" * 65_000 + "x\n", 65_002, "`x` can't stand here"),
     ("test t\n" + " " * 65_000 + "\nx\n", 3, "`x` can't stand here"),
     ("test t\nbytes 4\n" + A + LOADS + "check A.r0 == 0\n" + " " * 65536, 1, f"the text has more than {LIMITS['text']} bytes:"),
@@ -248,7 +249,8 @@ check B.r0 === 1 && B.r1 !== 42
 """
 SEVERAL = [
     # An if on a load, one with two comparisons, and `else if`: what is said has one end more.
-    ("test t\nbytes 4\nagent A\nif (U8[0] === 1) {\n} else if (r0 === 2) {\n}\n}\nif r0 == 1 && r0 != 3 {\n}\n}\nagent B { r0 = U8[1] }\ncheck A.r0 == 0\n",
+    ("test t\nbytes 4\nagent A\nif (U8[0] === 1) {\n} else if (r0 === 2) {\n}\n}\nif r0 == 1 && r0 != 3 {\n}\n}\nagent B { r0 = U8[1] }\n"
+     "check A.r0 == 0\n",
      [(4, "3 syntax", "       if r0 == 1 {"), (5, "3 syntax", "       if r0 == 2 {"), (8, "3 syntax", "       if r0 != 3 {"),
       (11, "3 syntax", "       r0 = U8[1]")]),
     # `}` and `else {` on two lines.
@@ -267,9 +269,10 @@ SEVERAL = [
      "datum = U32[0]\n}\ncheck flag == 1 && datum != 42\n",
      [(7, "3 syntax", "write: r0 = Atomics.load(U32, 1)"), (8, "3 syntax", "write: if r0 == 1 {"), (9, "3 syntax", "write: r1 = U32[0]"),
       (11, "3 syntax", "write: check C.r0 == 1 && C.r1 != 42")]),
-    (SLOPPY, [(1, "3 syntax", "write: test mp"), (3, "3 syntax", "write: agent producer"), (4, "3 syntax", "write: U32[0] = 42 // ta[0]: U32[0]"),
-              (5, "3 syntax", "write: Atomics.store(U32, 1, 1) // ta[1]: U32[1]"), (6, "4 misplaced", "write: nothing in its place"),
-              (7, "3 syntax", "write: agent consumer"), (8, "3 syntax", "write: r0 = Atomics.load(U32, 1) // ta[1]: U32[1]"),
+    (SLOPPY, [(1, "3 syntax", "write: test mp"), (3, "3 syntax", "write: agent producer"),
+              (4, "3 syntax", "write: U32[0] = 42 // ta[0]: U32[0]"), (5, "3 syntax", "write: Atomics.store(U32, 1, 1) // ta[1]: U32[1]"),
+              (6, "4 misplaced", "write: nothing in its place"), (7, "3 syntax", "write: agent consumer"),
+              (8, "3 syntax", "write: r0 = Atomics.load(U32, 1) // ta[1]: U32[1]"),
               (9, "3 syntax", "write: if r0 == 1 {"), (11, "3 syntax", "write: r1 = U32[0] // ta[0]: U32[0]"),
               (13, "4 misplaced", "write: nothing in its place"), (14, "3 syntax", "write: check consumer.r0 == 1 && consumer.r1 != 42")]),
     # Two loads without a register, and one that stands: each gets its own.

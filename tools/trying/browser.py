@@ -24,7 +24,8 @@ class Browser:
         # It reads what it is told at 3, and answers at 4. As a browser with a screen does, it has a process for each origin.
         command = ["bash", "-c", f"exec \"$@\" 3<&{given} 4>&{answers} {given}<&- {answers}>&-", "bash", name, "--headless", "--no-sandbox",
                    "--remote-debugging-pipe", "--disable-gpu", "--disable-dev-shm-usage", "--no-first-run", "--hide-scrollbars",
-                   "--site-per-process", "--disable-background-networking", "--disable-component-update", f"--user-data-dir={self.folder.name}", "about:blank"]
+                   "--site-per-process", "--disable-background-networking", "--disable-component-update",
+                   f"--user-data-dir={self.folder.name}", "about:blank"]
         self.process = subprocess.Popen(command, pass_fds=(given, answers), stdin=subprocess.DEVNULL, stdout=subprocess.DEVNULL,
                                         stderr=subprocess.DEVNULL, start_new_session=True)
         os.close(given)

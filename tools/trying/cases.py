@@ -1,4 +1,5 @@
-"""The cases of a check, run by unittest: each is a function that is given a room of its own, and fails by an assertion or any other error."""
+"""The cases of a check, run by unittest: each is a function that is given a room of its own, and fails by an assertion or any other
+error."""
 import os
 import signal
 import subprocess

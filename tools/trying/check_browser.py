@@ -2,6 +2,7 @@
 import json
 
 from trying import check_answers, check_javascript
+from trying.attempts import PASTED
 from trying.check_limits import beyond_memory, ended, large, without_workers
 from trying.check_links import linked, linked_plainly
 from trying.check_reasons import asked_why, raced, reasons
@@ -204,9 +205,7 @@ def faults(page):
 
 def pasted(page):
     """Two arrays of JavaScript get cells of their own, and what stood there can be put back."""
-    given = ("test mp\nbytes 8\nagent A\ndata[0] = 42; Atomics.store(flag, 0, 1);\nagent B\nif (Atomics.load(flag, 0) === 1) {\n  r1 = data[0]\n}\n"
-             "check B.r0 === 1 && B.r1 !== 42\n")
-    page.take(given)
+    page.take(PASTED)
     page.click("#run")
     page.until("document.querySelector('#take-all')")
     page.click("#take-all")
@@ -215,7 +214,7 @@ def pasted(page):
     page.run()
     same(page.said("#verdict strong"), "mp: verdict never")
     page.click("#put-back")
-    same(page.text(), given)
+    same(page.text(), PASTED)
     assert page.value("document.querySelector('#put-back').hidden"), "it is offered again"
 
 

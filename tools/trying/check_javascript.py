@@ -17,8 +17,9 @@ HEAD = "const m = new Int32Array(new SharedArrayBuffer(8));\n"
 AGENTS = "agents({ A() { Atomics.store(m, 0, 1); }, B() { return Atomics.load(m, 0); } });\n"
 ANSWER = "outcome  B: 0\noutcome  B: 1\noutcomes 2\ndata race no\n"
 # What is left of the browser in the worker: constants alone. Then what the host of agents gives.
-GIVEN = """$262 PERSISTENT TEMPORARY URL Worker agents assert close console crypto exports importScripts EventSource WebSocket XMLHttpRequest
-  fetch module performance queueMicrotask requestAnimationFrame require self setImmediate setInterval setTimeout structuredClone""".split()
+GIVEN = """$262 PERSISTENT TEMPORARY URL Worker agents assert close console crypto exports importScripts EventSource WebSocket fetch module
+  performance queueMicrotask requestAnimationFrame require self setImmediate setInterval setTimeout structuredClone XMLHttpRequest
+  """.split()
 
 
 def tutorial():

@@ -1,10 +1,10 @@
 'use strict';
-// check_text.js TEXT PROGRAM OUTPUT FILE..: whether jslit-text, TEXT, says of a text what the program takes it for. Of each text it makes others,
-// with noise of all kinds. Both have to refuse the same of them with the same words; and where they don't, the program has to answer the text
-// as it answers the canonical text of the test that jslit-text tells: with its report, or, where that is long in coming, with the
-// outcome of a schedule. The line of each statement has to be one that begins as it. The same noise comes in each run. What jslit-text said
-// goes to OUTPUT, a line a text. It ends with a line that says how many texts were tried, or with status 1 and the texts of which the two
-// say different things.
+// check_text.js TEXT PROGRAM OUTPUT FILE..: whether jslit-text, TEXT, says of a text what the program takes it for. Of each text it makes
+// others, with noise of all kinds. Both have to refuse the same of them with the same words; and where they don't, the program has to
+// answer the text as it answers the canonical text of the test that jslit-text tells: with its report, or, where that is long in coming,
+// with the outcome of a schedule. The line of each statement has to be one that begins as it. The same noise comes in each run. What
+// jslit-text said goes to OUTPUT, a line a text. It ends with a line that says how many texts were tried, or with status 1 and the texts
+// of which the two say different things.
 
 const fs = require('fs');
 const { spawn } = require('child_process');
@@ -131,7 +131,7 @@ const refusalOf = ({ number, word, line }) => `refused ${number} ${word}${line =
 // A statement whose line doesn't begin as it, if there is one.
 function misplaced(test, text) {
   const lines = text.split('\n').map((line) => line.split('//')[0].replace(/[\t\r ]/g, ''));
-  const begins = (each) => (isIf(each) ? `ifr${each.register}${each.equal ? '==' : '!='}${each.number}{` : shownAccess(each).replace(/ /g, ''));
+  const begins = (each) => shownStatements([each])[0].replace(/ /g, '');
   const every = test.agents.flatMap(({ statements }) => [...accessesOf(statements), ...branchesOf(statements)]);
   return every.find((each) => lines[each.line - 1] !== begins(each));
 }

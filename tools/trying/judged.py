@@ -71,7 +71,7 @@ class Choice:
         """The clause that the choice breaks first, or None. Guards aren't looked at."""
         if any((e, e) in self.before for e in self.count):
             return "happens-before"
-        if any((r, w) in self.before or any(self.does_write(v) and byte in self.bytes_of(v) and (w, v) in self.before and (v, r) in self.before
+        if any((r, w) in self.before or any(self.does_write(v) and byte in self.bytes_of(v) and {(w, v), (v, r)} <= self.before
                                             for v in self.count) for r, byte, w in self.sources):
             return "coherent-reads"
         if any(r == q and w != v and self.is_whole(w, r) and self.is_whole(v, r) for w, r in self.pairs for v, q in self.pairs):

@@ -100,7 +100,7 @@ LITMUS = {
     "race-unreached": [(9, "nothing before can read 2 into r0: `r0 == 2` never holds")],
     "sbmixed": [(11, f"`Atomics.store(U16, 1, 1)` and `r0 = Atomics.load(U8, 2)` on line 9 {NEVER}"),
                 (12, f"`r0 = Atomics.load(U8, 0)` and `Atomics.store(U16, 0, 1)` on line 8 {NEVER}")],
-    "seqlock-words": [(15, "B.2 takes its bytes from A.2 and the first zeros in the example of outcome 4, and needn't: with all from A.2 the "
-                           "outcome is the same; so it is in those of outcomes 5, 6, 7, 8, 9, 10 and others")],
+    "seqlock-words": [(15, "B.2 takes its bytes from A.2 and the first zeros in the example of outcome 4, and needn't: with all from A.2 "
+                           "the outcome is the same; so it is in those of outcomes 5, 6, 7, 8, 9, 10 and others")],
     "ww-sizes": [(10, f"`r0 = Atomics.exchange(U8, 1, 2)` and `Atomics.store(U16, 0, 257)` on line 8 {NEVER}")],
 }

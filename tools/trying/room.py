@@ -19,8 +19,8 @@ class Room:
 
     def ended(self, *words, status=0, program=None, command=None, given="", **variables):
         """A run, which has to end with this status, or with one of several."""
-        run = subprocess.run(self.line(*words, program=program, command=command), cwd=self.folder, input=given, capture_output=True, text=True,
-                             errors="replace", timeout=300, env={**os.environ, **variables})
+        run = subprocess.run(self.line(*words, program=program, command=command), cwd=self.folder, input=given, capture_output=True,
+                             text=True, errors="replace", timeout=300, env={**os.environ, **variables})
         wanted = status if isinstance(status, tuple) else (status,)
         assert run.returncode in wanted, f"{words}: status {run.returncode}: {run.stdout[-600:]}{run.stderr[-600:]}"
         return run

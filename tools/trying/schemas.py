@@ -11,6 +11,6 @@ def fits(name, records):
     subprocess.run([TOP / "tools" / "need", PACKAGE], check=True)
     lines = "".join(json.dumps(each) + "\n" for each in records)
     # Debian's own Python has Debian's package, whichever runs this.
-    run = subprocess.run(["/usr/bin/python3", TOP / "tools" / "trying" / "validate.py", TOP / "docs" / "schemas" / f"{name}.json"], input=lines,
-                         capture_output=True, text=True)
+    words = ["/usr/bin/python3", TOP / "tools/trying/validate.py", TOP / "docs" / "schemas" / f"{name}.json"]
+    run = subprocess.run(words, input=lines, capture_output=True, text=True)
     assert run.returncode == 0, run.stderr[-600:]

@@ -18,13 +18,13 @@ SOURCES = {
     "crates/jslit_cli/src/main.rt": "main\n", "crates/jslit_cli/src/stdin": "a source of that name\n",
 }
 OTHERS = {
-    "crates.txt": "# A crate a line.\nlow: arrayvec\nbeside:\nmiddle: low clap\njslit_cli: middle beside\nlow_tests: low\n", "HANDLES": "Handles allowed: none.\n",
-    "crates/low/must-fail/one.edit": "edit\n", "crates/low_tests/src/lib.rt": "tests\n", "crates/jslit_cli/stdin": "in\n",
-    "crates/jslit_cli/stdout": "out\n", "README.md": "words\n",
+    "crates.txt": "# A crate a line.\nlow: arrayvec\nbeside:\nmiddle: low clap\njslit_cli: middle beside\nlow_tests: low\n",
+    "HANDLES": "Handles allowed: none.\n", "crates/low/must-fail/one.edit": "edit\n", "crates/low_tests/src/lib.rt": "tests\n",
+    "crates/jslit_cli/stdin": "in\n", "crates/jslit_cli/stdout": "out\n", "README.md": "words\n",
 }
 # The scripts that are tried, with the files that they read.
-SCRIPTS = ("bin/jslit", "tools/build-program", "tools/building/proving.sh", "tools/building/sources.sh", "shared/bash/own.sh", "shared/bash/start.sh",
-           "shared/bash/words.sh", "docs/help/jslit.txt", "docs/help/version.txt")
+SCRIPTS = ("bin/jslit", "tools/build-program", "tools/building/proving.sh", "tools/building/sources.sh", "shared/bash/own.sh",
+           "shared/bash/start.sh", "shared/bash/words.sh", "docs/help/jslit.txt", "docs/help/version.txt")
 # What is said of a fault, and not of how far the build is. Right before it may stand what a command began to say that was
 # given up, as in `find: cannot forkjslit: ..`.
 FAULT = re.compile(r"jslit: (?!proving |\d+ of \d+: |another start |built )")
@@ -38,7 +38,8 @@ case $1 in
     run)
         mkdir -p out && echo >>"$(realpath out)/../../../builds"
         cd ..
-        sum=$(find {low,middle,beside,jslit_cli}/{src,specs,proofs} -type f -print0 2>/dev/null | LC_ALL=C sort -z | xargs -0 sha256sum | sha256sum)
+        sum=$(find {low,middle,beside,jslit_cli}/{src,specs,proofs} -type f -print0 2>/dev/null | LC_ALL=C sort -z |
+            xargs -0 sha256sum | sha256sum)
         cd jslit_cli
         printf '#!/bin/sh\necho %s\n' "${sum%% *}" >out/jslit_cli.made
         chmod +x out/jslit_cli.made && mv out/jslit_cli.made out/jslit_cli ;;
@@ -105,8 +106,8 @@ class Repository:
     def wanted(self):
         """What the program of the sources, as they are now, prints."""
         crates = self.folder / "crates"
-        found = sorted(path.relative_to(crates).as_posix() for crate in ("low", "middle", "beside", "jslit_cli") for part in ("src", "specs", "proofs")
-                       for path in (crates / crate / part).rglob("*") if path.is_file())
+        found = sorted(path.relative_to(crates).as_posix() for crate in ("low", "middle", "beside", "jslit_cli")
+                       for part in ("src", "specs", "proofs") for path in (crates / crate / part).rglob("*") if path.is_file())
         lines = [f"{hashlib.sha256((crates / name).read_bytes()).hexdigest()}  {name}\n" for name in found]
         return hashlib.sha256("".join(lines).encode()).hexdigest() + "\n"
 
@@ -166,7 +167,8 @@ class Check:
             self.command(self.tools / name, text)
         # What is preloaded can't have blanks in its name.
         self.forks = pathlib.Path(work) / "forks.so"
-        subprocess.run([os.environ.get("CC", "cc"), "-shared", "-fPIC", "-o", self.forks, "-x", "c", TOP / "tools/trying/forks.c.in"], check=True)
+        subprocess.run([os.environ.get("CC", "cc"), "-shared", "-fPIC", "-o", self.forks, "-x", "c", TOP / "tools/trying/forks.c.in"],
+                       check=True)
         self.built = Repository(self.work / "built", scripts)
         self.first = self.start(self.built).end()
 

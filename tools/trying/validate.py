@@ -1,5 +1,5 @@
-"""validate.py SCHEMA [FILE]: whether each line of FILE, or of standard input, is JSON that fits the schema, by Debian's python3-jsonschema. It
-prints the kinds of those that do."""
+"""validate.py SCHEMA [FILE]: whether each line of FILE, or of standard input, is JSON that fits the schema, by Debian's
+python3-jsonschema. It prints the kinds of those that do."""
 import json
 import sys
 

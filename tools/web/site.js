@@ -27,7 +27,8 @@ const page = () => script(`${PAGE}/page.js`, {
 // modules where a page is a file.
 function engine(module) {
   const own = read(SHARED, PACKAGE).replace(/^export /gm, '').replace(/import\.meta\.url/g, 'location');
-  const given = { 'javascript/version.js': `module.exports = { VERSION: ${JSON.stringify(VERSION)} };\n`, [PACKAGE]: `${own}\nmodule.exports = { Trap, load };\n` };
+  const version = `module.exports = { VERSION: ${JSON.stringify(VERSION)} };\n`;
+  const given = { 'javascript/version.js': version, [PACKAGE]: `${own}\nmodule.exports = { Trap, load };\n` };
   const worker = script('javascript/page/worker.js', given, INSTEAD);
   return `const engine = ${JSON.stringify({ module: module.toString('base64'), worker }, null, 1)};\n`;
 }

@@ -53,7 +53,8 @@ class Drawing {
     this.reason = reasonOf(execution);
     this.words = [...this.reason.words(), ...words];
     this.title = execution.refusal ? title : `${title}\n${toldOf(execution.races)}`;
-    this.codes = new Map([...execution.events.values()].filter(({ line }) => line).map(({ name, line }) => [name, codeOf(lines[line - 1]).trim()]));
+    const events = [...execution.events.values()].filter(({ line }) => line);
+    this.codes = new Map(events.map(({ name, line }) => [name, codeOf(lines[line - 1]).trim()]));
     this.steps = numberedPairs(this.reason);
     this.picture = new Picture();
     this.columns = agents.map((agent) => ({ agent, names: [...this.codes.keys()].filter((name) => name.startsWith(`${agent}.`)) }));
@@ -81,7 +82,8 @@ class Drawing {
     runs.forEach((names, at) => picture.box(names[0], middle + (at - (runs.length - 1) / 2) * step, 0, this.shown(names), 11, 'init'));
     columns.forEach(({ agent, names }, at) => {
       picture.box(`agent ${agent}`, at * wide, -75, `agent ${agent}`, 11, 'agent');
-      names.forEach((name, row) => picture.box(name, at * wide, -125 - 120 * row, `${this.codes.get(name)}\n${this.shown([name])}`, 11, 'event'));
+      names.forEach((name, row) => (
+        picture.box(name, at * wide, -125 - 120 * row, `${this.codes.get(name)}\n${this.shown([name])}`, 11, 'event')));
     });
     if (this.words.length) {
       const lowest = -65 - 120 * Math.max(...columns.map(({ names }) => names.length));
@@ -111,13 +113,13 @@ class Drawing {
     const { sources, bytes } = this.execution;
     for (const [name, given] of sources) {
       for (const box of new Set(given.map((source) => this.boxes.get(source)))) {
-        const found = bytes.get(name).map((byte, at) => ({ byte, source: given[at] })).filter(({ source }) => this.boxes.get(source) === box);
-        const text = (found.length === 1 ? 'byte ' : 'bytes ') + span(found.map(({ byte }) => String(byte)));
+        const places = [...given.keys()].filter((at) => this.boxes.get(given[at]) === box);
+        const text = (places.length === 1 ? 'byte ' : 'bytes ') + span(places.map((at) => String(bytes.get(name)[at])));
         if (this.execution.has(box, name)) {
           const step = this.taken(box, name, 'synchronizes-with') ?? { text: 'synchronizes-with', kind: 'synchronizes' };
           this.picture.labelled(box, name, `${text}\n${step.text}`, step.kind);
         } else {
-          const refused = found.some(({ source }) => this.reason.reads.some(([one, other]) => one === source && other === name));
+          const refused = places.some((at) => this.reason.reads.some(([one, other]) => one === given[at] && other === name));
           this.picture.labelled(box, name, text, refused ? 'refused' : 'reads');
         }
       }

@@ -80,7 +80,8 @@ function whyNone(test, sources) {
   if (none) return wrongReads(every.get(none), given.get(none));
   const events = [...inits(test.bytes).map((event) => [`init[${event.first}]`, event]),
     ...[...fitting.values()].flatMap((ways) => ways.flatMap((way) => [...way.events]))];
-  const written = new Set(events.filter(([, { writes }]) => writes !== null).flatMap(([name, { bytes }]) => bytes.map((byte) => `${name} ${byte}`)));
+  const written = new Set(events.filter(([, { writes }]) => writes !== null)
+    .flatMap(([name, { bytes }]) => bytes.map((byte) => `${name} ${byte}`)));
   const wrong = names.map((agent) => wrongSource(fitting.get(agent), given.get(agent), written)).find(Boolean);
   return wrong ?? wrongValues(every, given);
 }

@@ -115,7 +115,8 @@ class Picture {
     const names = [first];
     for (const [x, y] of path.slice(1, -1)) {
       names.push(`point ${this.lines.length}`);
-      this.lines.push(`"${names[names.length - 1]}" [pos="${x.toFixed(0)},${y.toFixed(0)}!", shape=point, width=0.01, height=0.01, color="${color}"];`);
+      const place = `pos="${x.toFixed(0)},${y.toFixed(0)}!"`;
+      this.lines.push(`"${names.at(-1)}" [${place}, shape=point, width=0.01, height=0.01, color="${color}"];`);
     }
     names.push(last);
     path.slice(1).forEach((point, at) => this.segments.push([path[at], point]));
@@ -162,8 +163,9 @@ class Picture {
   roundAbout(from, to, places) {
     const [start, end] = [this.middle(from), this.middle(to)];
     const lengthOf = (way) => way.slice(1).reduce((sum, point, at) => sum + distance(way[at], point) + BEND, 0);
-    const tried = places.filter((_, at) => at < 12 || at % 6 === 0).map((place) => ({ place, ways: [this.way(start, place, [from]), this.way(place, end, [to])] }));
-    const found = tried.filter(({ ways }) => ways.every(Boolean));
+    const found = places.filter((_, at) => at < 12 || at % 6 === 0)
+      .map((place) => ({ place, ways: [this.way(start, place, [from]), this.way(place, end, [to])] }))
+      .filter(({ ways }) => ways.every(Boolean));
     if (found.length) {
       return found.map((each) => ({ ...each, length: lengthOf(each.ways[0]) + lengthOf(each.ways[1]) }))
         .reduce((least, each) => (each.length < least.length ? each : least));

@@ -69,13 +69,13 @@ function withoutOrder({ derivation }, names) {
 
 function incoherent({ read, source, byte, hidden_by: other, chains }) {
   const which = other ? `${other} writes over before the read` : 'comes after it';
-  return new Reason({ said: [`${read} reads byte ${byte} from ${source}, which ${which}`], steps: chains.flatMap(chained), reads: [[source, read]] });
+  const said = [`${read} reads byte ${byte} from ${source}, which ${which}`];
+  return new Reason({ said, steps: chains.flatMap(chained), reads: [[source, read]] });
 }
 
 function torn({ read, sources: [one, other] }) {
-  return new Reason({
-    said: [`${read} reads bytes of ${one} and of ${other}, which have its range; none of the three may tear`], reads: [[one, read], [other, read]],
-  });
+  const said = [`${read} reads bytes of ${one} and of ${other}, which have its range; none of the three may tear`];
+  return new Reason({ said, reads: [[one, read], [other, read]] });
 }
 
 // What refuses an execution; a Reason of no words where it is valid.

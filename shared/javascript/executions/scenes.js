@@ -22,7 +22,8 @@ async function example(ask, text, test, sources, values) {
   if (execution === null || execution.refusal) throw new Fault('jslit-why knows no valid execution with these values');
   const isExample = [...sources].every(([read, given]) => String(given) === String(execution.sources.get(read)));
   const outcome = `${test.name}: ${[...values].map(([register, value]) => `${register}=${value}`).join(' ')}`;
-  return new Drawing(isExample ? outcome : `${outcome}\nnot the report's example, which mixes more sources`, subjectOf(text, test), execution);
+  const title = isExample ? outcome : `${outcome}\nnot the report's example, which mixes more sources`;
+  return new Drawing(title, subjectOf(text, test), execution);
 }
 
 // The least choice that has these sources.
@@ -47,7 +48,8 @@ async function attempt(ask, text, test, unmet) {
   const answer = await ask(unmet ? ['--unmet'] : []);
   const subject = subjectOf(text, test);
   if (answer.execution) {
-    return new Drawing(`${answer.test}: a valid execution that ${unmet ? 'fails' : 'meets'} the condition`, subject, new Execution(answer.execution));
+    const title = `${answer.test}: a valid execution that ${unmet ? 'fails' : 'meets'} the condition`;
+    return new Drawing(title, subject, new Execution(answer.execution));
   }
   if (answer.clauses.length === 0) {
     throw new Fault(`${answer.verdict}: there is no attempt, since no path can make ${answer.no_path_can_make} true`);
@@ -61,7 +63,8 @@ async function race(ask, text, test) {
   const answer = await ask(['--race']);
   if (!answer.data_race) throw new Fault('no execution has a data race');
   const execution = new Execution(answer.execution);
-  return new Drawing(`${answer.test}: the first data race`, subjectOf(text, test), execution, { words: raceOf(execution), least: execution.races[0] });
+  const marked = { words: raceOf(execution), least: execution.races[0] };
+  return new Drawing(`${answer.test}: the first data race`, subjectOf(text, test), execution, marked);
 }
 
 module.exports = { attempt, chosen, example, race };

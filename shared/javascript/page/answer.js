@@ -118,7 +118,8 @@ async function answerExecution(question, { sources }) {
 // Each kind with what answers it: `picture` draws an outcome's example, as the report has it, `why` an attempt at an outcome that meets the
 // condition, or that doesn't. `values` are those of all outcomes, or the number of a refusal, for the exploring of JavaScript.
 const ANSWERS = {
-  report: async (question, { skip }) => ({ ...await told('report', question, await question.report([], { first: skip, most: PART })), skip }),
+  report: async (question, { skip: first }) => (
+    { ...await told('report', question, await question.report([], { first, most: PART })), skip: first }),
   quick: async (question) => told('quick', question, await question.report(['--quick'], { most: 2 })),
   schedule: async (question, { turns }) => {
     const { other } = await question.report(['--schedule', turns]);

@@ -141,7 +141,10 @@ async function draw(title, name, kind, words, lines = null) {
   if (picture.kind === 'picture') {
     showPicture(picture, title);
     byId('lines').textContent = lines ?? picture.lines.join('\n');
-  } else byId('picture').textContent = `There is no picture: ${picture.limit ? `stopped at the limit of ${picture.limit}` : picture.said ?? picture.refused}.`;
+  } else {
+    const why = picture.limit ? `stopped at the limit of ${picture.limit}` : picture.said ?? picture.refused;
+    byId('picture').textContent = `There is no picture: ${why}.`;
+  }
   byId('example').scrollIntoView({ block: 'nearest' });
 }
 

@@ -30,7 +30,8 @@ function edge({ kind, arrow, points }) {
 function box({ name, kind, x, y, width, height, lines, size }) {
   const step = size * 1.24;
   const at = kind === 'reason' ? x - width / 2 + 6 : x;
-  const texts = lines.map((line, place) => shape('text', { x: at, y: y + (place - (lines.length - 1) / 2) * step, 'font-size': size }, line));
+  const first = y - ((lines.length - 1) / 2) * step;
+  const texts = lines.map((line, place) => shape('text', { x: at, y: first + place * step, 'font-size': size }, line));
   return shape('g', { class: kind, 'data-name': name }, shape('rect', { x: x - width / 2, y: y - height / 2, width, height }), ...texts);
 }
 
@@ -39,8 +40,9 @@ function showPicture(picture, title) {
     ...picture.edges.flatMap((each) => each.points)];
   const [left, top] = [0, 1].map((axis) => Math.min(...points.map((point) => point[axis])) - MARGIN);
   const [right, bottom] = [0, 1].map((axis) => Math.max(...points.map((point) => point[axis])) + MARGIN);
-  const made = shape('svg', { viewBox: `${left} ${top} ${right - left} ${bottom - top}`, width: LARGER * (right - left), height: LARGER * (bottom - top),
-    role: 'img', 'aria-label': `${title}. The lines below say the same.` }, ...picture.edges.map(edge), ...picture.boxes.map(box));
+  const [width, height] = [right - left, bottom - top];
+  const made = shape('svg', { viewBox: `${left} ${top} ${width} ${height}`, width: LARGER * width, height: LARGER * height, role: 'img',
+    'aria-label': `${title}. The lines below say the same.` }, ...picture.edges.map(edge), ...picture.boxes.map(box));
   byId('picture').replaceChildren(made);
   for (const key of document.querySelectorAll('#legend [data-kind]')) {
     key.hidden = !picture.edges.some((each) => each.kind === key.dataset.kind);

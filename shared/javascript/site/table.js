@@ -48,7 +48,8 @@ function heading(name, column) {
 }
 
 function filter(name, column) {
-  const select = make('select', { id: `filter-${column}`, 'aria-label': `Show only outcomes with this value of ${name}` }, make('option', { value: '' }, 'any'));
+  const label = `Show only outcomes with this value of ${name}`;
+  const select = make('select', { id: `filter-${column}`, 'aria-label': label }, make('option', { value: '' }, 'any'));
   for (const value of [...new Set(outcomes.map((outcome) => key(outcome, column)))].sort((a, b) => a - b)) {
     select.append(make('option', { value, selected: wanted.get(column) === String(value) }, String(value)));
   }
@@ -99,7 +100,8 @@ function entered(event) {
 function render() {
   const shown = chosen();
   const head = make('thead', {},
-    make('tr', {}, heading('No.', 0), heading('condition', registers.length + 1), ...registers.map((name, place) => heading(name, place + 1))),
+    make('tr', {}, heading('No.', 0), heading('condition', registers.length + 1),
+      ...registers.map((name, place) => heading(name, place + 1))),
     make('tr', {}, make('td', {}, 'only'), make('td'), ...registers.map((name, place) => filter(name, place + 1))));
   const body = make('tbody', { onkeydown: walk, onfocusin: entered }, ...shown.map(row));
   byId('table').replaceChildren(make('table', { 'aria-label': 'Outcomes' }, head, body));

@@ -47,7 +47,8 @@ function said(told) {
 }
 
 function find(values) {
-  if (!chooseValues(values)) byId('turns').append(make('p', {}, 'It isn\u2019t in the table: run the test, or look among its later outcomes.'));
+  const none = 'It isn\u2019t in the table: run the test, or look among its later outcomes.';
+  if (!chooseValues(values)) byId('turns').append(make('p', {}, none));
 }
 
 function back(next, button) {

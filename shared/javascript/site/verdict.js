@@ -69,7 +69,8 @@ function folded(order) {
 function linesOf(outcome) {
   const values = outcome.values.map(([name, value]) => ` ${name}=${value}`).join('');
   return [`${outcome.group ? `${outcome.group} ` : ''}outcome${values}`,
-    ...outcome.from.map(([event, sources]) => `  from ${event} ${sources.join(' ')}`), `  order ${folded(outcome.order).join(' ')}`].join('\n');
+    ...outcome.from.map(([event, sources]) => `  from ${event} ${sources.join(' ')}`),
+    `  order ${folded(outcome.order).join(' ')}`].join('\n');
 }
 
 module.exports = { linesOf, say, sayRacing, sayStopped, sayVerdict };

@@ -1,13 +1,13 @@
 'use strict';
 // Arrays that a text names as its writer did, `data[0]` or `Atomics.store(flag, 0, 1)`: each gets cells of its own in the block, the same
-// on all lines and none that another has. Where that can't be told, it gets none: so it is where U8, U16 or U32 stand in the text too, since
-// the name may be another one for their bytes.
+// on all lines and none that another has. Where that can't be told, it gets none: so it is where U8, U16 or U32 stand in the text too,
+// since the name may be another one for their bytes.
 
 const { codeOf } = require('./forms.js');
 const limits = require('../../limits.json');
 
 const WIDE = '\\b(?:[UuIiFfB]64|B[UI]64|[Uu]?[Ii]nt64|[Ff]32|[Ff]loat(?:16|32|64)|[Bb]ig(?:U?[Ii]nt)?(?:64)?)(?:Array)?\\b';
-const KNOWN = /^(?:DV|Atomics|check|if|r[0-7]|[iu](?:8|16|32)|[UI](?:8|16|32|8C)|U?[iI]nt(?:8|16|32)(?:Array)?|ui(?:8|16|32)|Uint8ClampedArray)$/;
+const KNOWN = /^(?:DV|Atomics|check|if|r[0-7]|(?:[iuUI]|ui)(?:8|16|32)|[UI]8C|U?[iI]nt(?:8|16|32)(?:Array)?|Uint8ClampedArray)$/;
 const VIEW = /\b(?:U|I|Uint|Int|u|i)(8|16|32)(?:Array)?\b/g;
 const ELEMENT = /\b([A-Za-z_]\w*)\[\s*([^\]\s]*)\s*\]/g;
 const ARGUMENT = /\b(?:[aA]tomics?\s*(?:\.|::)\s*)?(?:\w+)\(\s*([A-Za-z_]\w*)\s*,\s*([^,)\s]*)/g;
@@ -69,8 +69,8 @@ class Cells {
   // Why a name has no cells.
   why(name) {
     if (this.isMixed) {
-      return `memory is U8, U16 and U32, views of the whole block: where \`${name}\` is one of these, write that; where it is another array, `
-        + 'give it elements that no other line has';
+      return `memory is U8, U16 and U32, views of the whole block: where \`${name}\` is one of these, write that; `
+        + 'where it is another array, give it elements that no other line has';
     }
     const unknown = [...this.sizes].find(([, count]) => Number.isNaN(count));
     if (unknown) return `where \`${name}\` stands in the block can't be told, since an index of \`${unknown[0]}\` is no number`;

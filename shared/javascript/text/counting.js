@@ -72,10 +72,10 @@ function tooManyChoices(test, codes) {
   const reads = mostChoices(test);
   const total = product(reads.map(({ ways }) => ways));
   const many = [...reads].sort((one, other) => Number(other.ways - one.ways > 0n) - Number(other.ways - one.ways < 0n));
-  const told = many.slice(0, 6).filter(({ ways }) => ways > 1n).map(({ ways, name, event, candidates }) => (
-    `${name}: line ${event.line}, \`${codes[event.line - 1]}\`, ${candidates.join(' * ')}${candidates.length > 1 ? ` = ${ways}` : ''} ways`));
-  const said = [`the reads of one combination of paths can take their bytes in ${total} ways; ${limits.choices} is the most over all combinations`,
-    ...told.map((line) => `  ${line}`), ...(many.length > 6 ? [`  and ${many.length - 6} more reads`] : [])];
+  const told = many.slice(0, 6).filter(({ ways }) => ways > 1n).map(({ ways, name, event: { line }, candidates }) => (
+    `  ${name}: line ${line}, \`${codes[line - 1]}\`, ${candidates.join(' * ')}${candidates.length > 1 ? ` = ${ways}` : ''} ways`));
+  const said = [`the reads of one combination of paths can take their bytes in ${total} ways; ${limits.choices} is the most over all `
+    + 'combinations', ...told, ...(many.length > 6 ? [`  and ${many.length - 6} more reads`] : [])];
   const wide = reads.find(({ event }) => event.size > 1);
   if (!wide) return [...said, 'each load and each store of the byte multiplies: leave some out, or give some a byte of their own'];
   const events = test.agents.flatMap(({ statements }) => narrow(statements).flat());

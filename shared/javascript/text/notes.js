@@ -43,17 +43,19 @@ function canRead(test, agent, event, number) {
     [0, ...stored(byte)].includes(Math.floor(number / 256 ** place) % 256)));
 }
 
-const comparison = (left, equal, number) => `\`${left} ${equal ? '==' : '!='} ${number}\` ${equal ? 'never' : 'always'} holds`;
+const comparison = (left, equal, number, how = equal ? 'never' : 'always') => `\`${left} ${equal ? '==' : '!='} ${number}\` ${how} holds`;
 
 // Ifs on a register that nothing has read into, and with a number that nobody can have read.
-const branches = (test) => test.agents.flatMap(({ name, statements }) => branchesOf(statements).flatMap(({ line, register, equal, number }) => {
-  const before = eventsOf(statements).filter((event) => event.register === register && event.line < line);
+const branches = (test) => test.agents.flatMap(({ name, statements }) => branchesOf(statements).flatMap((branch) => {
+  const { line, equal, number } = branch;
+  const register = `r${branch.register}`;
+  const before = eventsOf(statements).filter((event) => event.register === branch.register && event.line < line);
   if (before.length === 0) {
-    const holds = (number === 0) === equal ? 'always' : 'never';
-    return [{ line, said: `nothing before reads into r${register}, which is 0 here: \`r${register} ${equal ? '==' : '!='} ${number}\` ${holds} holds` }];
+    const holds = comparison(register, equal, number, (number === 0) === equal ? 'always' : 'never');
+    return [{ line, said: `nothing before reads into ${register}, which is 0 here: ${holds}` }];
   }
   if (number === 0 || before.some((event) => canRead(test, name, event, number))) return [];
-  return [{ line, said: `nothing before can read ${number} into r${register}: ${comparison(`r${register}`, equal, number)}` }];
+  return [{ line, said: `nothing before can read ${number} into ${register}: ${comparison(register, equal, number)}` }];
 }));
 
 // compareExchanges that expect what nobody can have stored.

@@ -54,7 +54,8 @@ function ofLine(lines, number, place) {
   if (count > 1) {
     const joined = lines.slice(number - 1, number - 1 + count).map((line) => codeOf(line).trim()).join(' ').split(/\s+/).join(' ');
     const { said, write } = firstFault(joined) === null ? { said: [], write: joined } : slipsOf(joined, place);
-    if (write) return { said: [`an if is one line, here lines ${place.number} to ${place.number + count - 1}`, ...said], write, count, from: number };
+    const whole = `an if is one line, here lines ${place.number} to ${place.number + count - 1}`;
+    if (write) return { said: [whole, ...said], write, count, from: number };
   }
   const found = slipsOf(lines[number - 1], place);
   const isElse = /^else\b/.test(codeOf(lines[number - 1]).trim()) && number > 1 && codeOf(lines[number - 2]).trim() === '}';

@@ -147,7 +147,8 @@ const VIEWS = [
   [ELEMENT, element, 'memory is U8, U16 and U32, views of the whole block: each name has cells of its own in it'],
   [ELEMENT, null, (match, place) => place.scene.cells.why(match[1])],
   [/\bU(8|16|32)\[r[0-7].*?\]/, null, 'an index is a number: for each value of the register write an `if` with the access in it'],
-  [/\b(?:Atomics\.)?(fence|mfence|barrier|atomic_thread_fence)\b/, null, 'there are no fences: only accesses through Atomics order anything'],
+  [/\b(?:Atomics\.)?(fence|mfence|barrier|atomic_thread_fence)\b/, null,
+    'there are no fences: only accesses through Atomics order anything'],
 ];
 const ALL_USED = 'what is read goes to a register, always, and this agent uses all eight: let one of them go';
 const EACH = CALLS.join('|');
@@ -290,8 +291,8 @@ function split(code, place) {
     const lines = found && linesOf(found, place);
     if (!lines) continue;
     const each = lines.map((line) => (firstFault(line) === null ? { said: [], write: line } : advice(line, place)));
-    const isWhole = each.every(({ write }) => write !== null);
-    return { said: [...new Set([why, ...each.flatMap(({ said }) => said)])], write: isWhole ? each.map(({ write }) => write).join('\n') : null };
+    const write = each.every((one) => one.write !== null) ? each.map((one) => one.write).join('\n') : null;
+    return { said: [...new Set([why, ...each.flatMap(({ said }) => said)])], write };
   }
   return null;
 }

@@ -124,7 +124,8 @@ function outOfBlock(lines, number) {
   const need = isView ? index + size : (index + 1) * size;
   const whole = Math.floor(block / size);
   const inView = block >= size ? `a DataView's number is the first byte, here 0 to ${block - size}` : 'no access of this size fits';
-  const inArray = block >= size ? `an index counts elements and not bytes, here 0 to ${whole - 1}` : 'the block has no whole element of this size';
+  const inArray = block >= size ? `an index counts elements and not bytes, here 0 to ${whole - 1}`
+    : 'the block has no whole element of this size';
   const element = Math.floor(index / size);
   const byte = bits > 8 && element < whole && !isView ? `; byte ${index} is in U${bits}[${element}]` : '';
   const larger = need <= limits.block ? `; with \`bytes ${need}\` the line stands` : '';
@@ -154,21 +155,22 @@ function tooDeep(lines, number) {
     const opened = new Shape(lines, number - 1).open.map((each) => each.number).join(', ');
     return { column: null, said: `${limits.ifs} ifs can be open, here those on lines ${opened}: end one before, or leave a test out` };
   }
-  return {
-    column: null,
-    said: `a comparison has at most ${limits.depth} \`!\` and \`(\` around it: leave out those that change nothing, \`!(a && b)\` is \`!a || !b\``,
-  };
+  return { column: null, said: `a comparison has at most ${limits.depth} \`!\` and \`(\` around it: `
+    + 'leave out those that change nothing, `!(a && b)` is `!a || !b`' };
 }
 
 function missingPart(lines) {
   const shape = new Shape(lines, lines.length);
   const known = shape.agents.flatMap(({ name }) => [...shape.registers.get(name)].sort().map((register) => `${name}.${register}`));
   const said = () => {
-    if (!shape.test) return 'the text is empty: the lines are `test NAME`, `bytes N`, `agent NAME` with its statements, and `check CONDITION`';
+    if (!shape.test) {
+      return 'the text is empty: the lines are `test NAME`, `bytes N`, `agent NAME` with its statements, and `check CONDITION`';
+    }
     if (shape.size === null) return 'after `test NAME` come `bytes N`, the agents and the check';
     if (!shape.agents.length) return 'after `bytes N` come the agents, each a line `agent NAME` and its statements, and the check';
     if (shape.open.length) {
-      return `the \`if\` on line ${shape.innermost().number} isn't ended: a line \`}\` is missing; and then the last line, \`check CONDITION\``;
+      return `the \`if\` on line ${shape.innermost().number} isn't ended: a line \`}\` is missing; and then the last line, `
+        + '`check CONDITION`';
     }
     if (!known.length) return 'the last line is a check, on a register that some agent reads into, as `r0 = U8[0]`: none does';
     return `the last line is missing, the question: \`check ${known[known.length - 1]} == 0\`, of the registers ${known.join(', ')}`;

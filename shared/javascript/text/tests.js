@@ -3,7 +3,8 @@
 
 const isIf = (statement) => statement.kind === 'if';
 
-const accessesOf = (statements) => statements.flatMap((each) => (isIf(each) ? [...accessesOf(each.body), ...accessesOf(each.other)] : [each]));
+const accessesOf = (statements) => statements.flatMap((each) => (
+  isIf(each) ? [...accessesOf(each.body), ...accessesOf(each.other)] : [each]));
 const branchesOf = (statements) => statements.flatMap((each) => (
   isIf(each) ? [each, ...branchesOf(each.body), ...branchesOf(each.other)] : []));
 
@@ -15,7 +16,8 @@ const namesOf = (test) => registersOf(test).map(([agent, register]) => `${test.a
 // Whether an access may write or not, by what it reads.
 const decides = ({ values }) => values.length === 2;
 
-// An access as an event: `writes` is null where it writes nothing, `register` where it reads nothing. Of a compareExchange that which succeeds.
+// An access as an event: `writes` is null where it writes nothing, `register` where it reads nothing. Of a compareExchange that which
+// succeeds.
 function eventOf(access) {
   const { line, register, atomic, view, bits, place, values } = access;
   const size = bits / 8;

@@ -81,8 +81,9 @@ function unread(test, line) {
     if (!paths.some((each) => hangsOn(test.condition, comparison, each, end))) return [];
     const lines = eventsOf(statements).filter((event) => event.register === register).map((event) => event.line);
     const where = lines.length === 1 ? `line ${lines[0]} isn't reached` : `none of the lines ${lines.join(', ')} is reached`;
-    const sign = equal ? '==' : '!=';
-    return [{ line, said: `where ${where}, nothing reads into ${agent}.r${register}: it is 0 there, and \`${agent}.r${register} ${sign} ${number}\` holds` }];
+    const name = `${agent}.r${register}`;
+    const told = `${name} ${equal ? '==' : '!='} ${number}`;
+    return [{ line, said: `where ${where}, nothing reads into ${name}: it is 0 there, and \`${told}\` holds` }];
   });
 }
 

@@ -19,7 +19,8 @@ function sourceOf(random) {
   const value = () => pick('1', '2', 'x', '(x + 1) & 3', '(x ^ 1) & 3', 'x > 1 ? 3 : 1');
   const read = () => pick(`x = b[${random(2)}]`, `x = Atomics.load(b, ${random(2)})`, `x = Atomics.exchange(b, ${random(2)}, ${value()})`,
     `x = Atomics.add(b, ${random(2)}, 1) & 3`, `x = Atomics.compareExchange(b, ${random(2)}, ${random(2)}, ${value()})`);
-  const write = () => pick(`b[${random(2)}] = ${value()}`, `Atomics.store(b, ${random(2)}, ${value()})`, 'w[0] = 0x0201', 'Atomics.store(w, 0, 0x0102)');
+  const write = () => pick(`b[${random(2)}] = ${value()}`, `Atomics.store(b, ${random(2)}, ${value()})`, 'w[0] = 0x0201',
+    'Atomics.store(w, 0, 0x0102)');
   const agent = (name) => `${name}() { let x = 0; ${read()}; const y = x; if (x ${pick('===', '!==')} ${random(3)}) { ${write()}; } `
     + `else { ${pick(write(), read())}; } return [y, x]; }`;
   return 'const sab = new SharedArrayBuffer(4); const b = new Uint8Array(sab), w = new Uint16Array(sab);\n'

@@ -16,40 +16,45 @@ function endlessIn(source) {
   const trees = plant(programOf(source));
   const space = new Interleavings(trees).go();
   assert.ok(space.isWhole, source);
-  return [...space.hangs.values()].map(({ ends }) => ends.map(({ agent, at, how }) => `${trees.list[agent].name} ${how} ${at.line}`).join(', ')).sort();
+  const told = ({ agent, at, how }) => `${trees.list[agent].name} ${how} ${at.line}`;
+  return [...space.hangs.values()].map(({ ends }) => ends.map(told).join(', ')).sort();
 }
 
+// What it is, the agents, what may have no end, and what stands before the agents, on a line of its own.
+const WAIT = 'const f = () => { Atomics.wait(m, 0, 0); };\n';
+const LOCKS = 'const lock = (k) => { while (Atomics.exchange(m, k, 1) === 1); }, unlock = (k) => Atomics.store(m, k, 0);\n';
 const PROGRAMS = [
-  ['a flag that nobody raises', 'agents({ A() { while (Atomics.load(m, 0) === 0); } });', ['A spins 2']],
-  ['a flag that is raised', 'agents({ A() { while (Atomics.load(m, 0) === 0); }, B() { Atomics.store(m, 0, 1); } });', []],
-  ['a flag that is lowered again', 'agents({ A() { while (Atomics.load(m, 0) === 0); }, B() { Atomics.store(m, 0, 1); Atomics.store(m, 0, 0); } });', ['A spins 2']],
-  ['a wait that nobody ends', 'agents({ A() { Atomics.wait(m, 0, 0); } });', ['A waits 2']],
-  ['a wait with a limit', 'agents({ A() { Atomics.wait(m, 0, 0, 10); } });', []],
-  ['a notification that may come too early', 'agents({ A() { Atomics.wait(m, 0, 0); }, B() { Atomics.notify(m, 0); } });', ['A waits 2']],
-  ['a value before the notification', 'agents({ A() { Atomics.wait(m, 0, 0); }, B() { Atomics.store(m, 0, 1); Atomics.notify(m, 0); } });', []],
-  ['the value after the notification', 'agents({ A() { Atomics.wait(m, 0, 0); }, B() { Atomics.notify(m, 0); Atomics.store(m, 0, 1); } });', ['A waits 2']],
-  ['one is woken of two', 'const f = () => { Atomics.wait(m, 0, 0); };\nagents({ A: f, B: f, C() { Atomics.store(m, 0, 1); Atomics.notify(m, 0, 1); } });',
-    ['A waits 2', 'B waits 2']],
-  ['both are woken', 'const f = () => { Atomics.wait(m, 0, 0); };\nagents({ A: f, B: f, C() { Atomics.store(m, 0, 1); Atomics.notify(m, 0, 2); } });', []],
-  ['two locks, each in another order', 'const lock = (k) => { while (Atomics.exchange(m, k, 1) === 1); };\nconst unlock = (k) => Atomics.store(m, k, 0);\n'
-    + 'agents({ A() { lock(0); lock(1); unlock(1); unlock(0); }, B() { lock(1); lock(0); unlock(0); unlock(1); } });', ['A spins 2, B spins 2']],
-  ['two locks in one order', 'const lock = (k) => { while (Atomics.exchange(m, k, 1) === 1); };\nconst unlock = (k) => Atomics.store(m, k, 0);\n'
-    + 'agents({ A() { lock(0); lock(1); unlock(1); unlock(0); }, B() { lock(0); lock(1); unlock(1); unlock(0); } });', []],
-  ['a lock that is forgotten', 'const lock = () => { while (Atomics.compareExchange(m, 0, 0, 1) !== 0) Atomics.wait(m, 0, 1); };\n'
-    + 'agents({ A() { lock(); if (m[1] === 0) return; Atomics.store(m, 0, 0); Atomics.notify(m, 0); }, B() { lock(); } });', ['A waits 2', 'B waits 2']],
-  ['one that waits again takes the notification of another',
-    'const f = () => { while (Atomics.load(m, 0) === 0) Atomics.wait(m, 0, 0); };\n'
-    + 'agents({ A: f,\nB() { Atomics.wait(m, 0, 0); }, C() { Atomics.notify(m, 0, 1); } });', ['A waits 2', 'A waits 2, B waits 4']],
-  ['each waits for the other', 'agents({ A() { Atomics.wait(m, 0, 0); Atomics.store(m, 1, 1); Atomics.notify(m, 1); },\n'
-    + 'B() { Atomics.wait(m, 1, 0); Atomics.store(m, 0, 1); Atomics.notify(m, 0); } });', ['A waits 2, B waits 3']],
+  ['a flag that nobody raises', 'A() { while (Atomics.load(m, 0) === 0); }', ['A spins 2']],
+  ['a flag that is raised', 'A() { while (Atomics.load(m, 0) === 0); }, B() { Atomics.store(m, 0, 1); }', []],
+  ['a flag that is lowered again', 'A() { while (Atomics.load(m, 0) === 0); }, B() { Atomics.store(m, 0, 1); Atomics.store(m, 0, 0); }',
+    ['A spins 2']],
+  ['a wait that nobody ends', 'A() { Atomics.wait(m, 0, 0); }', ['A waits 2']],
+  ['a wait with a limit', 'A() { Atomics.wait(m, 0, 0, 10); }', []],
+  ['a notification that may come too early', 'A() { Atomics.wait(m, 0, 0); }, B() { Atomics.notify(m, 0); }', ['A waits 2']],
+  ['a value before the notification', 'A: f, B() { Atomics.store(m, 0, 1); Atomics.notify(m, 0); }', [], WAIT],
+  ['the value after the notification', 'A: f, B() { Atomics.notify(m, 0); Atomics.store(m, 0, 1); }', ['A waits 2'], WAIT],
+  ['one is woken of two', 'A: f, B: f, C() { Atomics.store(m, 0, 1); Atomics.notify(m, 0, 1); }', ['A waits 2', 'B waits 2'], WAIT],
+  ['both are woken', 'A: f, B: f, C() { Atomics.store(m, 0, 1); Atomics.notify(m, 0, 2); }', [], WAIT],
+  ['two locks, each in another order', 'A() { lock(0); lock(1); unlock(1); unlock(0); }, B() { lock(1); lock(0); unlock(0); unlock(1); }',
+    ['A spins 2, B spins 2'], LOCKS],
+  ['two locks in one order', 'A() { lock(0); lock(1); unlock(1); unlock(0); }, B() { lock(0); lock(1); unlock(1); unlock(0); }', [], LOCKS],
+  ['a lock that is forgotten', 'A() { lock(); if (m[1] === 0) return; Atomics.store(m, 0, 0); Atomics.notify(m, 0); }, B() { lock(); }',
+    ['A waits 2', 'B waits 2'], 'const lock = () => { while (Atomics.compareExchange(m, 0, 0, 1) !== 0) Atomics.wait(m, 0, 1); };\n'],
+  ['one that waits again takes the notification of another', 'A: f,\nB() { Atomics.wait(m, 0, 0); }, C() { Atomics.notify(m, 0, 1); }',
+    ['A waits 2', 'A waits 2, B waits 4'], 'const f = () => { while (Atomics.load(m, 0) === 0) Atomics.wait(m, 0, 0); };\n'],
+  ['each waits for the other', 'A() { Atomics.wait(m, 0, 0); Atomics.store(m, 1, 1); Atomics.notify(m, 1); },\n'
+    + 'B() { Atomics.wait(m, 1, 0); Atomics.store(m, 0, 1); Atomics.notify(m, 0); }', ['A waits 2, B waits 3']],
 ];
-for (const [name, code, wanted] of PROGRAMS) test(name, () => assert.deepEqual(endlessIn(HEAD + code), wanted));
+for (const [name, agents, wanted, before = ''] of PROGRAMS) {
+  test(name, () => assert.deepEqual(endlessIn(`${HEAD}${before}agents({ ${agents} });`), wanted));
+}
 
 function sourceOf(random) {
   const pick = (...list) => list[random(list.length)];
   const at = () => random(2);
-  const act = () => pick(`Atomics.wait(m, ${at()}, 0)`, `Atomics.store(m, ${at()}, 1)`, `Atomics.notify(m, ${at()})`, `Atomics.notify(m, ${at()}, 1)`,
-    `Atomics.add(m, ${at()}, 1)`, `if (Atomics.load(m, ${at()}) === 0) Atomics.wait(m, ${at()}, 0)`, `Atomics.wait(m, ${at()}, 1)`);
+  const act = () => pick(`Atomics.wait(m, ${at()}, 0)`, `Atomics.store(m, ${at()}, 1)`, `Atomics.notify(m, ${at()})`,
+    `Atomics.notify(m, ${at()}, 1)`, `Atomics.add(m, ${at()}, 1)`, `if (Atomics.load(m, ${at()}) === 0) Atomics.wait(m, ${at()}, 0)`,
+    `Atomics.wait(m, ${at()}, 1)`);
   const agent = (name) => `${name}() {\n${act()};\n${act()};\n${pick('', `${act()};`)}\n}`;
   return `${HEAD}agents({ ${[agent('A'), agent('B'), agent('C')].slice(0, 2 + random(2)).join(', ')} });`;
 }
@@ -66,8 +71,8 @@ function hangsOf(source) {
     if (seen.has(key)) return;
     seen.add(key);
     const open = agents.map((_, place) => place).filter((place) => nextOf(agents[place]) && !asleep(agents[place]));
-    const stuck = agents.map((agent, place) => [agent, place]).filter(([agent]) => asleep(agent));
-    if (open.length === 0 && stuck.length) found.add(stuck.map(([agent, place]) => `${names[place]} waits ${nextOf(agent).at.line}`).join(', '));
+    const stuck = agents.flatMap((agent, place) => (asleep(agent) ? [`${names[place]} waits ${nextOf(agent).at.line}`] : []));
+    if (open.length === 0 && stuck.length) found.add(stuck.join(', '));
     for (const place of open) {
       const agent = agents[place];
       const event = nextOf(agent);

@@ -21,7 +21,8 @@ function sourceOf(litmus) {
   const agents = litmus.agents.map(({ name }, place) =>
     `${name}() { ${agentCode(litmus, place)}\nconst out = {}; copy(U8, U16, U32, DV, 0, out, 0); return out; }`);
   return `const sab = new SharedArrayBuffer(${litmus.bytes});
-const U8 = new Uint8Array(sab), U16 = new Uint16Array(sab, 0, ${litmus.bytes >> 1}), U32 = new Uint32Array(sab, 0, ${litmus.bytes >> 2}), DV = new DataView(sab);
+const U8 = new Uint8Array(sab), U16 = new Uint16Array(sab, 0, ${litmus.bytes >> 1}), U32 = new Uint32Array(sab, 0, ${litmus.bytes >> 2});
+const DV = new DataView(sab);
 agents({ ${agents.join(',\n')} });`;
 }
 

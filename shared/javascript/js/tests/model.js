@@ -184,8 +184,9 @@ function valueAt(agents, line, { block, first, size }, initial) {
 
 function isRacingInLine(ways, line, initial) {
   const execution = new Execution(ways, initial);
-  const numberOf = (found, block, byte) => execution.events.findIndex((event) =>
-    (found ? event.agent === found.agent && event.place === found.place : event.op === 'init' && event.block === block && event.first === byte));
+  const numberOf = (found, block, byte) => execution.events.findIndex((event) => (
+    found ? event.agent === found.agent && event.place === found.place
+      : event.op === 'init' && event.block === block && event.first === byte));
   const agents = ways.map((last) => ({ last }));
   const sources = execution.byteReads.map(({ number, byte }) => {
     const { agent, place, block } = execution.events[number];

@@ -49,7 +49,10 @@ class Writer {
     const kind = this.random(depth > 1 ? 4 : 7);
     if (kind < 2) return `${this.read()}; out.push(x);`;
     if (kind < 4) return `${this.write()};`;
-    if (kind === 4) return `if (x ${this.pick('===', '>', '!==')} ${this.random(2)}) { ${this.statement(depth + 1)} } else { ${this.statement(depth + 1)} }`;
+    if (kind === 4) {
+      return `if (x ${this.pick('===', '>', '!==')} ${this.random(2)}) { ${this.statement(depth + 1)} } `
+        + `else { ${this.statement(depth + 1)} }`;
+    }
     if (kind === 5) return `for (let k = 0; k < 2; k += 1) { ${this.statement(depth + 2)} }`;
     return `while (Atomics.load(b, 3) === ${this.random(3) ? 1 : 'x - x + 1'}) { x = b[3] & 0; }`;
   }
@@ -57,7 +60,8 @@ class Writer {
   source() {
     const agents = ['A', 'B'].map((name) =>
       `${name}() { let x = 0; const out = []; ${Array.from({ length: 2 }, () => this.statement(0)).join(' ')} return out; }`);
-    return `const sab = new SharedArrayBuffer(8); const b = new Uint8Array(sab), s = new Int8Array(sab), w = new Uint16Array(sab), i = new Int32Array(sab);
+    return `const sab = new SharedArrayBuffer(8);
+const b = new Uint8Array(sab), s = new Int8Array(sab), w = new Uint16Array(sab), i = new Int32Array(sab);
 b[1] = ${this.random(3)};\nagents({ ${agents.join(',\n')} });`;
   }
 }

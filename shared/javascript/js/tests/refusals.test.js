@@ -38,7 +38,10 @@ const REFUSED = [
   ['many accesses together',
     `${HEAD}const f = () => { for (let k = 0; k < 4; k += 1)\nb[k] += 1; };\nagents({ A: f, B: f, C: f, D: f });`, 3,
       'more than 24 accesses together'],
-  ['many bytes', 'const sab = new SharedArrayBuffer(36); const b = new Uint8Array(sab), i = new Int32Array(sab);\nconst look = (from) => [0, 4, 8].map((k) => b[from + k]);\nagents({ A() { for (let k = 0; k < 9; k += 1) i[k] = 1; }, B: () => look(0), C: () => look(12), D: () => look(24) });', 3, '36 bytes of shared memory, and 32 are followed'],
+  ['many bytes', 'const sab = new SharedArrayBuffer(36); const b = new Uint8Array(sab), i = new Int32Array(sab);\n'
+    + 'const look = (from) => [0, 4, 8].map((k) => b[from + k]);\n'
+    + 'agents({ A() { for (let k = 0; k < 9; k += 1) i[k] = 1; }, B: () => look(0), C: () => look(12), D: () => look(24) });',
+  3, '36 bytes of shared memory, and 32 are followed'],
   ['many agents', `${HEAD}const f = () => b[0];\nagents({ A: f, B: f, C: f, D: f, E: f, F: f, G: f, H: f, I: f });`, 3,
     '9 agents are started, and 8 are followed'],
   ['no agent', `${HEAD}b[0] = 1;`, null, 'no agent is started'],
@@ -71,8 +74,9 @@ const REFUSED = [
   ['main after the agents', `${agents('b[0] = 1;')}\nb[0] = 2;`, 3, 'main accesses shared memory after it started the agents'],
   ['a worker from a text', 'const { Worker } = require("worker_threads");\nnew Worker("1", { eval: true });', 2,
     'a worker from a text isn\'t followed'],
-  ['listening late', 'const { Worker, isMainThread } = require("worker_threads");\nif (isMainThread) { const sab = new SharedArrayBuffer(1); '
-    + 'const w = new Worker(__filename, { workerData: sab });\nnew Uint8Array(sab)[0] = 1;\nw.on("message", () => {}); }',
+  ['listening late', 'const { Worker, isMainThread } = require("worker_threads");\nif (isMainThread) { const sab = '
+    + 'new SharedArrayBuffer(1); const w = new Worker(__filename, { workerData: sab });\nnew Uint8Array(sab)[0] = 1;\n'
+    + 'w.on("message", () => {}); }',
   4, 'after the first access of main isn\'t followed: listen before'],
   ['a message that is a function', 'const { Worker } = require("worker_threads");\nnew Worker(__filename, { workerData: () => 1 });', 2,
     'a function isn\'t followed from one agent to another'],
@@ -108,8 +112,8 @@ const DANGERS = [
     'A() { while (m.size < 2 && Atomics.load(b, 0) === 0) m.set(m.size, 0); return m.size; }, B() { Atomics.store(b, 0, 1); }',
       ['A: 0', 'A: 1', 'A: 2']],
   ['a variable of the caller', '',
-    'A() { let n = 0; const spin = (f) => { while (f()); }; spin(() => { n += 1; return n < 2 && Atomics.load(b, 0) === 0; }); return n; }, '
-      + 'B() { Atomics.store(b, 0, 1); }', ['A: 1', 'A: 2']],
+    'A() { let n = 0; const spin = (f) => { while (f()); }; spin(() => { n += 1; return n < 2 && Atomics.load(b, 0) === 0; }); '
+      + 'return n; }, B() { Atomics.store(b, 0, 1); }', ['A: 1', 'A: 2']],
   ['a variable that is set after it is read', '',
     'A() { let last = 9; let now = 9; do { last = now; now = Atomics.load(b, 0); } while (now === 0 && last !== 0); return [last, now]; }, '
       + 'B() { Atomics.store(b, 0, 1); }', ['A: [0, 0]', 'A: [0, 1]', 'A: [9, 1]']],
@@ -129,11 +133,13 @@ const DANGERS = [
   ['a view with an offset', 'const v = new Uint8Array(sab, 4, 2).subarray(1);',
     'A() { v[0] = 1; v[1] = 2; return v.length; }, B() { return [b[5], b[6]]; }', ['A: 1   B: [0, 0]', 'A: 1   B: [1, 0]']],
   ['exceptions of the engine', '',
-    'A() { try { Atomics.load(b, 99); } catch (e) { return [e instanceof RangeError, e instanceof Error, e.constructor === RangeError]; } }, '
-      + 'B() { try { null.x; } catch (e) { return e instanceof TypeError; } }, C() { return b[0]; }', ['A: [true, true, true]   B: true   C: 0']],
+    'A() { try { Atomics.load(b, 99); } catch (e) { return [e instanceof RangeError, e instanceof Error, e.constructor === RangeError]; } '
+      + '}, B() { try { null.x; } catch (e) { return e instanceof TypeError; } }, C() { return b[0]; }',
+    ['A: [true, true, true]   B: true   C: 0']],
   ['types of the engine', '',
-    'A() { return [b instanceof Uint8Array, ArrayBuffer.isView(b), [1] instanceof Array, sab instanceof SharedArrayBuffer, new Uint8Array(2) instanceof Uint8Array, b.constructor === Uint8Array]; }, '
-      + 'B() { return b[0]; }', ['A: [true, true, true, true, true, true]   B: 0']],
+    'A() { return [b instanceof Uint8Array, ArrayBuffer.isView(b), [1] instanceof Array, sab instanceof SharedArrayBuffer, '
+      + 'new Uint8Array(2) instanceof Uint8Array, b.constructor === Uint8Array]; }, B() { return b[0]; }',
+    ['A: [true, true, true, true, true, true]   B: 0']],
   ['catching all that is thrown', '',
     'A() { try { if (Atomics.load(b, 0)) throw 1; } catch { return "caught"; } finally { b[1] = 1; } return "not"; }, '
       + 'B() { Atomics.store(b, 0, 1); }', ['A: "caught"', 'A: "not"']],

@@ -7,7 +7,8 @@ const assert = require('node:assert');
 const { agentsOf, answered, tellOf, textsOf } = require('./asking.js');
 const { hasRace, outcomesOf } = require('./model.js');
 
-const HEAD = 'const sab = new SharedArrayBuffer(16); const b = new Uint8Array(sab), w = new Uint16Array(sab), i = new Int32Array(sab), s = new Int8Array(sab), d = new DataView(sab);\n';
+const HEAD = 'const sab = new SharedArrayBuffer(16), b = new Uint8Array(sab), w = new Uint16Array(sab), i = new Int32Array(sab), '
+  + 's = new Int8Array(sab), d = new DataView(sab);\n';
 const values = (...list) => (event) => (event.op === 'choice' ? Array.from({ length: event.count }, (_, place) => place) : list);
 
 // Whether the answer has just the outcomes that the model allows where reads have these values, in each byte of their ranges; and,
@@ -107,10 +108,8 @@ test('values that are copied round are told', async () => {
 });
 
 test('a loop that writes what it reads, beside a plain store', async () => {
-  const { program } = await answered(
-    `${HEAD}agents({ A() { while (Atomics.exchange(b, 0, 1) === 1); b[0] = 0; }, B() { while (Atomics.exchange(b, 0, 1) === 1); b[0] = 0; } });`);
-  assert.match([...program.notes.keys()][0], /two of its turns are followed/);
-  const good = await answered(
-    `${HEAD}agents({ A() { while (Atomics.exchange(b, 0, 1) === 1); Atomics.store(b, 0, 0); }, B() { while (Atomics.exchange(b, 0, 1) === 1); Atomics.store(b, 0, 0); } });`);
-  assert.equal(good.program.notes.size, 0);
+  const lock = (release) => answered(
+    `${HEAD}const f = () => { while (Atomics.exchange(b, 0, 1) === 1); ${release}; };\nagents({ A: f, B: f });`);
+  assert.match([...(await lock('b[0] = 0')).program.notes.keys()][0], /two of its turns are followed/);
+  assert.equal((await lock('Atomics.store(b, 0, 0)')).program.notes.size, 0);
 });
