@@ -26,16 +26,15 @@ const details = (done) => [
 
 const inStep = (done) => `in step ${grouped(done.in_step)} of ${grouped(done.copies)}`;
 
-const loaded = ({ processors, busy, others }) => `${busy} of ${processors} processors busy, ${others} of them with other work`;
-
 // The whole of one run: the outcomes of the report in its order, and then those that it doesn't have.
 function histogram({ told: { test, allowed }, run: done }, seenAlone) {
   const times = new Map(done.seen.map((entry) => [keyOf(entry.values), entry.times]));
   const entries = allowed.outcomes.map((values) => ({ values, times: times.get(keyOf(values)) ?? 0 }));
   const kept = entries.filter((entry) => !seenAlone || entry.times > 0);
   const meets = meetsOf(test);
+  const { processors, busy, others } = done.load;
   return [`test ${done.test} on ${plain(done.engine)}: ${grouped(done.copies)} copies in ${done.seconds} seconds, ${inStep(done)}\n`,
-    `${loaded(done.load)}\n`,
+    `${busy} of ${processors} processors busy, ${others} of them with other work\n`,
     ...kept.map((entry) => outcomeLine(allowed.registers, entry, meets, '')),
     ...done.not_allowed.map((entry) => outcomeLine(allowed.registers, entry, meets, '  NOT ALLOWED')),
     `outcomes ${done.outcomes}, seen ${done.seen.length}, not allowed ${done.not_allowed.length}\n`,

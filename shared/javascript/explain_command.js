@@ -79,14 +79,11 @@ function isReadOnce(name) {
   }
 }
 
-const isPrintable = (sign) => sign === '\t' || /^[\p{L}\p{M}\p{N}\p{P}\p{S} ]$/u.test(sign);
-
 // The line, cut where it is long, and a caret.
 function show(line, column) {
   const start = line.length > WIDTH ? Math.max(0, column - WIDTH / 2) : 0;
-  const signs = (text) => [...utf8(text)];
-  say(`    ${signs(line.slice(start, start + WIDTH)).map((sign) => (isPrintable(sign) ? sign : ' ')).join('').trimEnd()}`);
-  say(`    ${signs(line.slice(start, column)).map((sign) => (sign === '\t' ? '\t' : ' ')).join('')}^`);
+  say(`    ${utf8(line.slice(start, start + WIDTH)).replace(/[^\p{L}\p{M}\p{N}\p{P}\p{S} \t]/gu, ' ').trimEnd()}`);
+  say(`    ${utf8(line.slice(start, column)).replace(/[^\t]/gu, ' ')}^`);
 }
 
 function explain(said, name, text, given) {

@@ -82,9 +82,7 @@ function checked(document) {
 // Gives each part of the report whose JSON it is fed.
 class JsonReader {
   constructor(give) {
-    this.give = give;
-    this.waiting = [];
-    this.begun = null;
+    Object.assign(this, { give, waiting: [], begun: null });
     this.cutter = new Cutter((text) => this.opened(text), (outcome) => this.outcome(outcome));
   }
 
@@ -101,10 +99,6 @@ class JsonReader {
   outcome(outcome) {
     if (this.begun) this.give({ outcome });
     else this.waiting.push(outcome);
-  }
-
-  feed(text) {
-    this.cutter.feed(text);
   }
 
   end() {
@@ -129,7 +123,7 @@ async function readJson(stream, begin, { after, several }) {
       }
       if (piece !== '') {
         reader ??= new JsonReader(begin());
-        reader.feed(piece);
+        reader.cutter.feed(piece);
         await after();
       }
     }

@@ -37,9 +37,7 @@ async function eachLine(stream, take) {
 // Collects text, and writes it in large pieces.
 class Writer {
   constructor(stream) {
-    this.stream = stream;
-    this.pieces = [];
-    this.length = 0;
+    Object.assign(this, { stream, pieces: [], length: 0 });
   }
 
   add(text) {

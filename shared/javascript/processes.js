@@ -45,9 +45,7 @@ const everyProcess = () => namesIn('/proc').filter((name) => /^[0-9]+$/.test(nam
 class Processes {
   // Those whose mark begins so.
   constructor(mark) {
-    this.sign = `${VARIABLE}=${mark}`;
-    this.asked = new Map();
-    this.known = new Set();
+    Object.assign(this, { sign: `${VARIABLE}=${mark}`, asked: new Map(), known: new Set() });
   }
 
   // Whether a process has the mark, or was found before.

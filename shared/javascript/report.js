@@ -31,9 +31,7 @@ const words = (text) => (text === '' ? [] : text.slice(1).split(' '));
 class ReportReader {
   // `give` is called with each part: {begins}, {outcome}, {ends} or {all}.
   constructor(give) {
-    this.give = give;
-    this.registers = null;
-    this.number = 0;
+    Object.assign(this, { give, registers: null, number: 0 });
     this.steps = this.document();
     this.steps.next();
   }

@@ -8,11 +8,8 @@ const { getSystemErrorMap } = require('util');
 // The words of a command as they were given: Node takes them for UTF-8, which a file's name need not be. A byte that is none stands as a
 // character from U+DC80 on, as in Python. By /proc, so on Linux; elsewhere they are Node's.
 const isUtf8 = (bytes) => Buffer.from(bytes.toString('utf8'), 'utf8').equals(bytes);
-const byteSign = (byte) => (byte < 128 ? String.fromCharCode(byte) : String.fromCharCode(0xdc00 + byte));
-
-function wordOf(bytes) {
-  return isUtf8(bytes) ? bytes.toString('utf8') : [...bytes].map(byteSign).join('');
-}
+const wordOf = (bytes) => (isUtf8(bytes) ? bytes.toString('utf8')
+  : Array.from(bytes, (byte) => String.fromCharCode(byte < 128 ? byte : 0xdc00 + byte)).join(''));
 
 function givenWords() {
   const words = process.argv.slice(2);

@@ -139,10 +139,7 @@ function misplaced(test, text) {
 // What is asked of the program for a test: its report, where that comes soon, and else the outcome of turn after turn.
 class Asker {
   constructor(teller, program) {
-    this.teller = teller;
-    this.program = program;
-    this.known = new Map();
-    this.told = [];
+    Object.assign(this, { teller, program, known: new Map(), told: [] });
   }
 
   // The words to ask of a test, and the answer on its canonical text.

@@ -43,11 +43,10 @@ function stepsOf({ before, after, reason, chain, read, source }) {
   return [new Step(before, after, `${middle} may not stand between ${from} and ${by}`)];
 }
 
-// The steps that lead to what the forced lines rest on, where that is not of happens-before.
-const earlierSteps = (lines) => lines
+// What the forced lines rest on, where that is not of happens-before.
+const premisesOf = (lines) => lines
   .flatMap((line) => (['before-source', 'after-read'].includes(line.reason) ? line.lines : []))
-  .filter((place) => lines[place].reason !== 'happens-before')
-  .flatMap((place) => joined(lines, place).flatMap((each) => stepsOf(lines[each])));
+  .filter((place) => lines[place].reason !== 'happens-before');
 
 // The steps of the cycle that the last line closes, from its least event on.
 function cycleOf(lines, names) {
@@ -64,7 +63,8 @@ const around = (steps, earlier = []) => new Reason({
 
 function withoutOrder({ derivation }, names) {
   if (derivation === null) return new Reason({ said: ['each order of the events breaks a rule; no pair of events alone shows it'] });
-  return around(cycleOf(derivation, names), earlierSteps(derivation));
+  const premises = premisesOf(derivation).flatMap((place) => joined(derivation, place));
+  return around(cycleOf(derivation, names), premises.flatMap((place) => stepsOf(derivation[place])));
 }
 
 function incoherent({ read, source, byte, hidden_by: other, chains }) {
@@ -99,4 +99,4 @@ function raceOf(execution) {
   return [`data race ${pair[0].name} and ${pair[1].name}`, ...pair.map(accessed), 'neither happens before the other', which];
 }
 
-module.exports = { raceOf, reasonOf };
+module.exports = { joined, premisesOf, raceOf, reasonOf };

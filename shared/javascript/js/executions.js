@@ -2,6 +2,7 @@
 // What jslit-why says of one way of each agent, in the user's terms: an execution step by step, or what refuses it.
 
 const { traced } = require('./interleavings.js');
+const { joined, premisesOf } = require('../executions/reasons.js');
 const { Limit } = require('./refusal.js');
 const { Straight, wayOf } = require('./straight.js');
 
@@ -170,12 +171,6 @@ class Reason {
     return { read: this.named(read), source: this.named(source), hidden: other === null ? null : this.named(other) };
   }
 
-  // The lines of which the line at a place is composed, in the order of their events.
-  parts(lines, place) {
-    const { reason, lines: cited } = lines[place];
-    return reason === 'joined' ? cited.flatMap((each) => this.parts(lines, each)) : [place];
-  }
-
   step(line) {
     if (line.reason === 'happens-before') return this.chain(line.chain);
     const [middle, source, read] = line.reason === 'after-read'
@@ -186,12 +181,9 @@ class Reason {
 
   // First the steps to the lines that forced lines cite, then the steps of the cycle, from its first event on.
   cycle(lines) {
-    const steps = (places) => places.flatMap((place) => this.step(lines[place]));
-    const premises = lines.filter(({ reason }) => reason === 'before-source' || reason === 'after-read')
-      .map((line) => line.lines[0]).filter((place) => lines[place].reason !== 'happens-before');
-    const places = this.parts(lines, lines.length - 1);
-    return [...[...new Set(premises)].flatMap((place) => steps(this.parts(lines, place))), ...steps(places),
-      this.itself(lines[places[0]].before)];
+    const places = joined(lines, lines.length - 1);
+    const premises = [...new Set(premisesOf(lines))].flatMap((place) => joined(lines, place));
+    return [...[...premises, ...places].flatMap((place) => this.step(lines[place])), this.itself(lines[places[0]].before)];
   }
 }
 

@@ -38,10 +38,9 @@ class State {
 class Interleavings {
   // `see` is called where an agent was found to go a longer way: it refuses what is too long.
   constructor({ list, setting }, see = () => undefined) {
-    Object.assign(this, { see, list, setting, lengths: list.map(() => 0), numbers: new Map(), seen: new Set(), states: [],
-      places: new Map(), isWhole: true,
-      races: new Map(), hangs: new Map(), ended: new Map(), leaves: new Map(), together: new Set(), parents: new Map() });
-    this.first = [];
+    Object.assign(this, { see, list, setting, lengths: list.map(() => 0), numbers: new Map(), seen: new Set(), states: [], first: [],
+      places: new Map(), isWhole: true, races: new Map(), hangs: new Map(), ended: new Map(), leaves: new Map(), together: new Set(),
+      parents: new Map() });
   }
 
   // The place of a byte among those that were accessed; all that is not memory begins with 0.

@@ -145,9 +145,8 @@ const methods = {
   },
 };
 // These only read, as those of Array do.
-for (const name of ['at', 'entries', 'every', 'find', 'findIndex', 'findLast', 'findLastIndex', 'forEach', 'includes', 'indexOf',
-  'join', 'keys',
-  'lastIndexOf', 'reduce', 'reduceRight', 'some', 'toString', 'values']) {
+for (const name of ['at', 'entries', 'every', 'find', 'findIndex', 'findLast', 'findLastIndex', 'forEach', 'includes', 'indexOf', 'join',
+  'keys', 'lastIndexOf', 'reduce', 'reduceRight', 'some', 'toString', 'values']) {
   const same = Array.prototype[name];
   if (same) methods[name] = { [name](...given) { return Reflect.apply(same, (itself(this), this), given); } }[name];
 }

@@ -12,10 +12,8 @@ const GLOBALS = `Object Function Array String Number Boolean Symbol Math JSON Ma
   SharedArrayBuffer ArrayBuffer DataView Int8Array Uint8Array Uint8ClampedArray Int16Array Uint16Array Int32Array
   Uint32Array Float32Array Float64Array BigInt64Array BigUint64Array WebAssembly Date Intl globalThis`.split(/\s+/);
 
-const isOpaque = (value) => types.isProxy(value) || types.isGeneratorObject(value) || types.isMapIterator(value)
-  || types.isSetIterator(value)
-  || types.isBoxedPrimitive(value) || types.isWeakMap(value) || types.isWeakSet(value) || types.isPromise(value) || types.isExternal(value)
-    || types.isModuleNamespaceObject(value);
+const OPAQUE = ['Proxy', 'GeneratorObject', 'MapIterator', 'SetIterator', 'BoxedPrimitive', 'WeakMap', 'WeakSet', 'Promise', 'External',
+  'ModuleNamespaceObject'];
 
 // What a function says of its calls at the moment: nothing that it keeps.
 const isOfCalls = (object, name) => typeof object === 'function' && (name === 'arguments' || name === 'caller');
@@ -82,9 +80,7 @@ class Looking {
   value(value) {
     if (this.words.length > MOST) throw new Opaque();
     if ((typeof value !== 'object' || value === null) && typeof value !== 'function') {
-      this.words.push(typeof value === 'symbol' ? `symbol ${String(value)}` : Object.is(value, -0) ? '-0' : typeof value === 'string'
-        ? JSON.stringify(value)
-        : `${typeof value} ${value}`);
+      this.words.push(typeof value === 'string' ? JSON.stringify(value) : Object.is(value, -0) ? '-0' : `${typeof value} ${String(value)}`);
       return;
     }
     this.words.push(`#${this.states.numberOf(value)}`);
@@ -109,7 +105,7 @@ class Looking {
       this.value(view.buffer);
       return;
     }
-    if (isOpaque(object)) throw new Opaque();
+    if (OPAQUE.some((kind) => types[`is${kind}`](object))) throw new Opaque();
     if (typeof object === 'function') this.function(object);
     const above = Object.getPrototypeOf(object);
     if (/Iterator$|^Weak/.test(String(Object.getOwnPropertyDescriptor(above ?? {}, Symbol.toStringTag)?.value))) throw new Opaque();

@@ -147,8 +147,7 @@ function measure(code) {
 // How often an agent may be woken: no more often than the others notify.
 class Wakes {
   constructor(list) {
-    this.list = list;
-    this.counts = new Map();
+    Object.assign(this, { list, counts: new Map() });
   }
 
   isBeyond({ op, first, turn }, name) {

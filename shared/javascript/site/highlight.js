@@ -7,8 +7,7 @@ const MOST = 20000;   // signs of a text that is coloured
 const { patterns } = require('./grammar.json');
 const FORMS = patterns.map(({ name = '', match, captures = {} }) => ({ name, captures, form: new RegExp(match, 'dg') }));
 
-const classOf = (name) => name.split('.')[0];
-const piece = (name, text) => (name && text ? make('span', { class: classOf(name) }, text) : text);
+const piece = (name, text) => (name && text ? make('span', { class: name.split('.')[0] }, text) : text);
 
 // What a pattern found, with its captures in their own colours.
 function* piecesOf({ name, captures }, found) {

@@ -155,16 +155,13 @@ function showOutcome(outcome) {
 // Who asks for these goes to where they are shown.
 function showWhy() {
   const never = told.verdict === 'never';
-  const shown = draw(never ? 'Why not: an attempt to meet the condition' : 'Why always: an attempt to fail the condition', 'why', 'why',
-    { unmet: !never });
+  draw(never ? 'Why not: an attempt to meet the condition' : 'Why always: an attempt to fail the condition', 'why', 'why', { unmet: !never });
   byId('example-title').focus();
-  return shown;
 }
 
 function showRace() {
-  const shown = draw('The first execution with a data race', 'race', 'race', {});
+  draw('The first execution with a data race', 'race', 'race', {});
   byId('example-title').focus();
-  return shown;
 }
 
 function changed() {
