@@ -4,7 +4,7 @@ import tempfile
 
 from building.kit import kit, proved, ran
 from installing.place import New
-from litmus.program import TOP, version
+from litmus.program import PUBLISHED, TOP, version
 
 NEEDS = ("cc=gcc", "objcopy=binutils")
 CRATE = "jslit_embed"
@@ -33,7 +33,7 @@ def whole_object(folder):
     return path
 
 
-def files(addresses):
+def files():
     """What is put where, by its name below a prefix."""
     number = version()[0]
     soname = f"libjslit.so.{number.split('.')[0]}"
@@ -48,6 +48,6 @@ def files(addresses):
         "include/jslit.h": New((TOP / "embed" / "jslit.h").read_bytes()),
         "lib/libjslit.a": New(archive), f"lib/libjslit.so.{number}": New(shared),
         f"lib/{soname}": New(link=f"libjslit.so.{number}"), "lib/libjslit.so": New(link=soname),
-        "lib/pkgconfig/jslit.pc": New(PACKAGE.format(version=number, **addresses).encode()),
+        "lib/pkgconfig/jslit.pc": New(PACKAGE.format(version=number, **PUBLISHED).encode()),
         "lib/python3/dist-packages/jslit.py": New((TOP / "embed" / "python" / "jslit.py").read_bytes()),
     }

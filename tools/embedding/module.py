@@ -15,7 +15,7 @@ from building.kit import kit, ran
 from embedding import library
 from installing.place import New, replace
 from litmus.ends import Fault
-from litmus.program import TOP, version
+from litmus.program import PUBLISHED, TOP, version
 
 NEEDS = ("wasm-opt=binaryen", "ar=binutils")
 HEAP = TOP / "embed" / "module" / "heap.c"
@@ -122,10 +122,10 @@ def made():
         return kept.read_bytes()
 
 
-def files(addresses):
+def files():
     """What is put where, by its name below a prefix: a package as npm has it."""
     own = TOP / "embed" / "npm"
-    package = json.loads((own / "package.json").read_text()) | {"version": version()[0], "repository": addresses["repository"]}
+    package = json.loads((own / "package.json").read_text()) | {"version": version()[0], "repository": PUBLISHED["repository"]}
     told = {"package.json": json.dumps(package, indent=2).encode() + b"\n", "jslit.wasm": made(),
             **{name: (own / name).read_bytes() for name in ("index.mjs", "index.d.ts", "README.md")},
             **{name: (TOP / name).read_bytes() for name in ("LICENSE-MIT", "LICENSE-APACHE")}}

@@ -1,8 +1,6 @@
 """The man page of a command, made of its --help, with the addresses of shared/published.json."""
-import json
-
 from installing.commands import COMMANDS
-from litmus.program import TOP
+from litmus.program import PUBLISHED
 
 
 def escaped(line):
@@ -18,8 +16,7 @@ def page_of(command, version, date):
         lines += [".SH DESCRIPTION" if place == 0 else ".PP", *map(escaped, text.split("\n"))]
     for heading, rows in command.sections:
         lines += [f".SH {heading.upper()}", ".nf", *map(escaped, (row.removeprefix("  ") for row in rows)), ".fi"]
-    addresses = json.loads((TOP / "shared" / "published.json").read_text())
-    lines += [".SH REPORTING FAULTS", escaped(f"To {addresses['faults']}; the repository is {addresses['repository']}.")]
+    lines += [".SH REPORTING FAULTS", escaped(f"To {PUBLISHED['faults']}; the repository is {PUBLISHED['repository']}.")]
     others = [name for name in COMMANDS if name != command.name]
     lines += [".SH SEE ALSO", ",\n".join(f".BR {escaped(name)} (1)" for name in others).replace(" (1),", " (1),")]
     return "\n".join(lines) + "\n"

@@ -13,6 +13,8 @@ NO_PROGRAM = 70  # the status of docs/COMMANDS.md for a program that isn't there
 CRATES = {"jslit": "jslit_cli", "jslit-text": "jslit_text", "jslit-why": "jslit_why"}
 # The limits of a text and of a test: those that jslit-text says, which check-text compares.
 LIMITS = json.loads((TOP / "shared" / "limits.json").read_text())
+# Where it is published: the repository, and where faults and mail go.
+PUBLISHED = json.loads((TOP / "shared" / "published.json").read_text())
 
 
 def version():

@@ -7,7 +7,7 @@ import time
 
 from installing.tree import cited
 from litmus.ends import Fault
-from litmus.program import TOP, version
+from litmus.program import PUBLISHED, TOP, version
 
 HEAD = """jslit {version} of {date}, commit {commit}
 
@@ -67,6 +67,6 @@ def note(programs, archive, embedded):
     return "\n".join([*parts, EMBEDDED, f"libjslit\n{sums}{own}\n{sources_of(archive)}\n"])
 
 
-def addressed(addresses):
+def addressed():
     """Who is written to: the authors of CITATION.cff, at the address of shared/published.json."""
-    return f"{cited('name')} <{addresses['mail']}>"
+    return f"{cited('name')} <{PUBLISHED['mail']}>"

@@ -2,14 +2,13 @@
 import base64
 import contextlib
 import hashlib
-import http.server
 import pathlib
 import re
 import subprocess
 import tempfile
 
 from litmus.program import TOP
-from trying.serving import answering, same
+from trying.serving import Quiet, answering, same
 
 SAMPLES = TOP / "shared" / "javascript" / "js" / "samples"
 ENDED = "document.querySelector('#verdict.is-told, #verdict.is-failed, #verdict.is-stopped')"
@@ -116,14 +115,11 @@ def listening():
     """An address that notes who comes."""
     seen = []
 
-    class Handler(http.server.BaseHTTPRequestHandler):
+    class Handler(Quiet):
         def do_GET(self):
             seen.append(self.path)
             self.send_response(204)
             self.end_headers()
-
-        def log_message(self, *_):
-            """Nothing."""
 
     with answering(Handler) as address:
         yield address, seen

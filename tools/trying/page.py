@@ -8,8 +8,6 @@ from trying.browser import Browser
 from trying.processes import wait_for
 from trying.serving import same
 
-TOLD = "document.querySelector('#verdict.is-told')"
-DRAWN = "document.querySelector('#picture svg') && document.querySelector('#picture').getAttribute('aria-busy') === 'false'"
 WIDE = "document.documentElement.scrollWidth > document.documentElement.clientWidth"
 
 
@@ -39,7 +37,7 @@ class Page(Browser):
         self.told()
 
     def drawn(self):
-        self.until(DRAWN)
+        self.until("document.querySelector('#picture svg') && document.querySelector('#picture').getAttribute('aria-busy') === 'false'")
 
     def focused(self):
         return self.value("document.activeElement.id || document.activeElement.dataset.agent || document.activeElement.innerText")
@@ -53,7 +51,7 @@ class Page(Browser):
         raise AssertionError(f"{name} is never reached")
 
     def told(self):
-        self.until(TOLD)
+        self.until("document.querySelector('#verdict.is-told')")
 
     def text(self):
         return self.value("document.querySelector('#text').value")
