@@ -4,6 +4,7 @@ The list stands in lib/jslit/installed.json, with names as seen from the folder,
 It has the contents, by digest, of each file that was put there or is about to be: what has others is somebody's own and is left. A file
 is written aside and renamed, the list before all others; so whatever ends an installation, the next one or a removal goes on from
 there."""
+import contextlib
 import hashlib
 import json
 import os
@@ -164,7 +165,8 @@ class Place:
             self.take(name)
         for name in reversed(self.folders):
             if name not in ABOVE_LIST:
-                remove_if_empty(self.prefix / name)
+                with contextlib.suppress(OSError):  # something else is in it, or it is gone
+                    (self.prefix / name).rmdir()
         self.kept += [name for name in self.in_tree() if name not in self.kept]
         self.remove_list()
 
@@ -218,10 +220,3 @@ def put_all(folder, files):
     for name, file in files.items():
         make_folder((folder / name).parent)
         replace(folder / name, file)
-
-
-def remove_if_empty(folder):
-    try:
-        folder.rmdir()
-    except OSError:
-        pass  # something else is in it, or it is gone

@@ -1,4 +1,5 @@
 """A browser without a screen, driven over its own protocol by two pipes: Debian's chromium-headless-shell, or chromium."""
+import contextlib
 import fcntl
 import json
 import os
@@ -33,10 +34,8 @@ class Browser:
         self.out, self.taken, self.number, self.rest, self.events, self.session = out, taken, 0, b"", [], None
 
     def close(self):
-        try:
+        with contextlib.suppress(ProcessLookupError):
             os.killpg(self.process.pid, 9)
-        except ProcessLookupError:
-            pass
         self.process.wait()
         os.close(self.out)
         os.close(self.taken)
@@ -99,11 +98,9 @@ class Browser:
         """Waits until the expression holds."""
         end = time.monotonic() + SECONDS
         while True:
-            try:
+            with contextlib.suppress(RuntimeError):  # a page that is being left
                 if self.value(f"Boolean({expression})"):
                     return
-            except RuntimeError:
-                pass  # a page that is being left
             if time.monotonic() > end:
                 raise TimeoutError(f"never: {expression}")
             time.sleep(0.02)

@@ -9,16 +9,15 @@ const { MessageChannel, Worker, receiveMessageOnPort } = require('worker_threads
 const words = process.argv.slice(2);
 if (words.includes('--version')) process.exit(1);   // the shell's own: `V8 version 12.4.254.21`, and a prompt
 const write = (text) => fs.writeSync(1, `${text}\n`);
+const clock = new Int32Array(new SharedArrayBuffer(4));
 
 const WITHIN = `const { workerData } = require('worker_threads');
 const fs = require('fs'), vm = require('vm');
-const { port, source, clock } = workerData;
-const context = vm.createContext({ SharedArrayBuffer, Atomics, print: (text) => fs.writeSync(1, text + '\\n'), postMessage(message) {
-  port.postMessage({ message });
-  Atomics.add(clock, 0, 1);
-  Atomics.notify(clock, 0);
-} });
-port.on('message', ({ message }) => context.onmessage({ data: message }));
+const { port, source } = workerData;
+const context = vm.createContext({
+  SharedArrayBuffer, Atomics, print: (text) => fs.writeSync(1, text + '\\n'), postMessage: (message) => port.postMessage(message),
+});
+port.on('message', (data) => context.onmessage({ data }));
 vm.runInContext(source, context);`;
 
 class ShellWorker {
@@ -26,20 +25,18 @@ class ShellWorker {
     if (options?.type !== 'string') throw new TypeError("this stand-in takes sources, by { type: 'string' }");
     const { port1, port2 } = new MessageChannel();
     this.port = port1;
-    this.clock = new Int32Array(new SharedArrayBuffer(4));
-    this.worker = new Worker(WITHIN, { eval: true, workerData: { port: port2, source, clock: this.clock }, transferList: [port2] });
+    this.worker = new Worker(WITHIN, { eval: true, workerData: { port: port2, source }, transferList: [port2] });
   }
 
   postMessage(message) {
-    this.port.postMessage({ message });
+    this.port.postMessage(message);
   }
 
   getMessage() {
     for (;;) {
-      const seen = Atomics.load(this.clock, 0);
       const found = receiveMessageOnPort(this.port);
-      if (found) return found.message.message;
-      Atomics.wait(this.clock, 0, seen, 1000);
+      if (found) return found.message;
+      Atomics.wait(clock, 0, 0, 1);
     }
   }
 

@@ -1,4 +1,5 @@
 """Processes that a check has started, which are known by a mark in their environment or in their words."""
+import contextlib
 import os
 import pathlib
 import time
@@ -8,11 +9,9 @@ def marked(mark):
     """The numbers of those with this mark."""
     found = []
     for path in pathlib.Path("/proc").glob("[0-9]*"):
-        try:
+        with contextlib.suppress(OSError):  # it has ended
             if str(mark).encode() in (path / "environ").read_bytes() + (path / "cmdline").read_bytes() and int(path.name) != os.getpid():
                 found.append(int(path.name))
-        except OSError:
-            pass  # it has ended
     return found
 
 

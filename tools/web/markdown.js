@@ -3,9 +3,7 @@
 // input to the list of their HTML on standard output.
 
 const fs = require('fs');
-const MARKED = '/usr/share/nodejs/marked/lib/marked.cjs';
-
-const { marked } = require(MARKED);
+const { marked } = require('/usr/share/nodejs/marked/lib/marked.cjs');
 
 const escaped = (text) => text.replace(/[&<>"]/g, (sign) => `&#${sign.charCodeAt(0)};`);
 const renderer = {
