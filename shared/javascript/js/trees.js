@@ -160,8 +160,7 @@ class Setting {
     const list = [...this.ranges];
     return [...this.relied].filter((key) => {
       const { event, isAtomic } = this.ranges.get(key);
-      return !isAtomic || list.some(([other, { event: by }]) => other !== key && by.block === event.block
-        && by.first < event.first + event.size && event.first < by.first + by.size);
+      return !isAtomic || list.some(([other, { event: by }]) => other !== key && overlaps(by, event));
     });
   }
 }
