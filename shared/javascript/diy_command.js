@@ -18,12 +18,10 @@ const { pathOf } = require('./system.js');
 
 const HEADS = ['tests', 'always', 'sometimes', 'never', 'data race'];
 
-const blanks = (word) => word.split(/\s+/).filter(Boolean);
-
 // The cycles that are asked for, each in its normal rotation.
 function askedFor({ upto, accesses, paths }) {
   if (upto) return cycles(edgesOf(paths.length ? paths : EVERY, kindsOf(accesses || 'P,A')), upto);
-  const given = paths.map(blanks);
+  const given = paths.map((word) => word.split(/\s+/).filter(Boolean));
   const lists = given.some(({ length }) => length !== 1) ? given : [paths];
   const found = lists.map((words) => normal(cycleOf(words)));
   return [...new Map(found.map((cycle) => [`${cycle}`, cycle])).values()];

@@ -15,11 +15,10 @@ function outcomeLine(registers, { values, times }, meets, mark) {
   return `${grouped(times).padStart(13)}  ${outcome}${meets(values) ? '  meets the condition' : ''}${mark}\n`;
 }
 
-const linesOf = (text) => text.split('\n').filter(Boolean).slice(0, SHOWN).map((line) => line.slice(0, 200));
-
 // What an engineer needs where a run went wrong.
 const details = (done) => [
-  ...(done.said === undefined || done.end === undefined ? [] : linesOf(done.end.stderr).map((line) => `  stderr: ${plain(line)}\n`)),
+  ...(done.said === undefined || done.end === undefined ? [] : done.end.stderr.split('\n').filter(Boolean).slice(0, SHOWN)
+    .map((line) => `  stderr: ${plain(line.slice(0, 200))}\n`)),
   ...(done.why ?? []).map((line) => `  ${plain(line)}\n`),
   ...(done.again === undefined ? [] : [`  again: ${plain(done.again)}\n`]),
   ...(done.kept === undefined ? [] : [`  kept: ${plain(done.kept)}\n`])];
@@ -55,7 +54,6 @@ function brief({ run: done, known }) {
 
 const counted = (number, what) => `${grouped(number)} ${what}${number === 1 ? '' : 's'}`;
 
-const sorted = (numbers) => [...numbers].sort((one, other) => one - other);
 const middleOf = (numbers) => numbers[Math.floor((numbers.length - 1) / 2)];
 
 // The sum of a campaign.
@@ -82,7 +80,7 @@ class Summary {
     const lines = [`${tests}, each by its worst run: ${counts.join(', ')}`];
     if (this.failedBefore > 0) lines.push(`failed before, by the log: ${counted(this.failedBefore, 'run')}`);
     if (this.inStep.length > 0) {
-      const [inStep, others] = [this.inStep, this.others].map(sorted);
+      const [inStep, others] = [this.inStep, this.others].map((numbers) => [...numbers].sort((one, other) => one - other));
       lines.push(`copies in step: ${grouped(inStep[0])} at the least, ${grouped(middleOf(inStep))} in the median`);
       lines.push(`processors busy with other work: ${middleOf(others)} in the median, ${others.at(-1)} at the most`);
     }

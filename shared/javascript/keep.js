@@ -9,8 +9,6 @@ const { placeOf, runOf } = require('./programs.js');
 
 const SECONDS = 60, LINES = 60, MOST = 4;   // for an answer; lines of one; outcomes that are asked for
 
-const conditionOf = (registers, values) => registers.map((register, place) => `${register} == ${values[place]}`).join(' && ');
-
 // Lines on the first of these outcomes, each with its condition in place of the test's name. The program is not proved and built first, in
 // the midst of a campaign.
 async function reasonsOf(registers, outside, file) {
@@ -18,7 +16,7 @@ async function reasonsOf(registers, outside, file) {
   if (!fs.existsSync(why) || registers.length === 0) return [];
   const lines = [];
   for (const { values } of outside.slice(0, MOST)) {
-    const condition = conditionOf(registers, values);
+    const condition = registers.map((register, place) => `${register} == ${values[place]}`).join(' && ');
     const { status, out } = await runOf(why, ['--condition', condition, file], '', { limit: SECONDS * 1000 });
     if (status === 0) lines.push(`${condition}:`, ...out.trimEnd().split('\n').slice(1, LINES));
   }

@@ -40,8 +40,6 @@ function namesIn(folder) {
   }
 }
 
-const everyProcess = () => namesIn('/proc').filter((name) => /^[0-9]+$/.test(name)).map((name) => processOf(Number(name))).filter(Boolean);
-
 class Processes {
   // Those whose mark begins so.
   constructor(mark) {
@@ -56,7 +54,8 @@ class Processes {
 
   // Those that are there now.
   now() {
-    const every = everyProcess().filter(({ pid, state }) => pid !== process.pid && state !== 'Z');
+    const every = namesIn('/proc').filter((name) => /^[0-9]+$/.test(name)).map((name) => processOf(Number(name)))
+      .filter((each) => each && each.pid !== process.pid && each.state !== 'Z');
     let found = every.filter((each) => this.isMarked(each));
     for (let before = -1; before < found.length;) {
       before = found.length;

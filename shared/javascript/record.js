@@ -40,8 +40,7 @@ const WHOLE = { ...ALWAYS, ...RUN };
 const FIELDS = { ...WHOLE, ...PERHAPS };
 const NAMES = Object.keys(FIELDS);
 
-const ordered = (run) => Object.fromEntries(NAMES.filter((name) => run[name] !== undefined).map((name) => [name, run[name]]));
-const lineOf = (run) => `${JSON.stringify(ordered(run))}\n`;
+const lineOf = (run) => `${JSON.stringify(Object.fromEntries(NAMES.map((name) => [name, run[name]])))}\n`;
 
 // The text that stands for how a run is told from others of the same text.
 const placeOf = ({ settings: { tried, in_step: inStep, seed }, ...run }) => (

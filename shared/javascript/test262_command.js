@@ -48,8 +48,6 @@ const ORDER_CODE = `if (new Uint8Array(new Uint16Array([1]).buffer)[0] !== 1) {
   throw new Test262Error("this test is for machines of little-endian order: it accesses a byte in several sizes");
 }`;
 
-const inTemplate = (code) => code.split('\n').map((line) => `  ${line}`).join('\n');
-
 // The block has, one after the other, the barriers of the groups, the results and the copies.
 function sharedCode(test) {
   return `// Each agent carries out its part of the test on many copies of the block. The agents line up before each group of
@@ -90,7 +88,7 @@ var WORK = \`
 }
 
 function mainCode(test) {
-  const agents = test.agents.map((_, agent) => `\`\n${inTemplate(agentCode(test, agent))}\n\``);
+  const agents = test.agents.map((_, agent) => `\`\n${agentCode(test, agent).replace(/^/gm, '  ')}\n\``);
   return `[${agents.join(', ')}].forEach(function(copy) {
   $262.agent.start(LAYOUT + copy + WORK);
 });

@@ -1,4 +1,4 @@
-# What the checks of the commands for engines share. It installs Debian's nodejs where there is no node.
+# What the checks of the commands for engines share.
 . "$(dirname "${BASH_SOURCE[0]}")/begin.sh"
 take_program "${1-}"
 "$top/tools/need" node=nodejs

@@ -63,8 +63,6 @@ function valueOf(data, global, realm) {
   }
 }
 
-const shownEntry = ([name, each]) => `${/^[A-Za-z_$][\w$]*$/.test(name) ? name : JSON.stringify(name)}: ${shown(each)}`;
-
 // As one would write it.
 function shown(data) {
   switch (data.type) {
@@ -74,7 +72,8 @@ function shown(data) {
     case 'array': return `[${data.items.map(shown).join(', ')}]`;
     case 'map': case 'set': return `${data.type === 'map' ? 'Map' : 'Set'} [${data.items.map(shown).join(', ')}]`;
     case 'error': return `${data.name}: ${data.message}`;
-    case 'object': return data.items.length ? `{ ${data.items.map(shownEntry).join(', ')} }` : '{}';
+    case 'object': return data.items.length ? `{ ${data.items.map(([name, each]) => (
+      `${/^[A-Za-z_$][\w$]*$/.test(name) ? name : JSON.stringify(name)}: ${shown(each)}`)).join(', ')} }` : '{}';
     case 'block': return `SharedArrayBuffer(${data.bytes})`;
     case 'view': return `${data.kind}(${data.length})`;
     default: return JSON.stringify(data.value);

@@ -69,15 +69,13 @@ async function answerRacing(question) {
   return { kind: 'racing', pairs };
 }
 
-// The condition as the text has it, behind `check`.
-const conditionOf = (text) => codeOf(text.split('\n').find((line) => /^\s*check\b/.test(line))).trim().slice('check'.length).trim();
-
 async function told(kind, question, report) {
   if (report.other.refused) return refused(question, report.other.refused);
   const { test } = await question.tell();
   const meets = meetsOf(test);
   const outcomes = report.outcomes.map((outcome) => ({ ...outcome, meets: meets(outcome.values.map(([, value]) => value)) }));
-  return { kind, condition: conditionOf(question.text), ...report.other, notes: notesOf(question.text, test), outcomes };
+  const asks = codeOf(question.text.split('\n').find((line) => /^\s*check\b/.test(line)));
+  return { kind, condition: asks.trim().slice('check'.length).trim(), ...report.other, notes: notesOf(question.text, test), outcomes };
 }
 
 // The report as the program prints it, with its examples or without.

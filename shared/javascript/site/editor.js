@@ -59,11 +59,8 @@ function clearFault() {
   number();
 }
 
-// The place in the text at which the line begins.
-const beginning = (line) => area.value.split('\n').slice(0, line - 1).reduce((sum, each) => sum + each.length + 1, 0);
-
 function goTo(line, column) {
-  const at = beginning(line) + (column ?? 0);
+  const at = area.value.split('\n').slice(0, line - 1).reduce((sum, each) => sum + each.length + 1, column ?? 0);
   area.focus();
   area.setSelectionRange(at, at);
   reveal(line);

@@ -9,12 +9,10 @@ const { chooseValues } = require('./table.js');
 let turns = [];
 let names = [];
 
-const agentsOf = (value) => [...value.matchAll(/^[ \t\r]*agent[ \t\r]+(\w+)/gm)].map((found) => found[1]);
-
 // The buttons are those of the agents that the text has now.
 function newText() {
   stop('turns');
-  names = [...new Set(agentsOf(text()))].slice(0, 8);
+  names = [...new Set(Array.from(text().matchAll(/^[ \t\r]*agent[ \t\r]+(\w+)/gm), ([, name]) => name))].slice(0, 8);
   turns = [];
   byId('agents').replaceChildren(...names.map((name) => make('button', { type: 'button', 'data-agent': name,
     onclick: () => step([...turns, name]) }, `Turn of ${name}`)));

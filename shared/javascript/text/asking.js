@@ -1,8 +1,6 @@
 'use strict';
 // The common slips of the line that asks: as those of slips.js, of the condition and of the names in it.
 
-const nthAgent = (agents) => (match) => `${agents[Number(match[1])] ?? 'NAME'}.${match[2]}`;
-
 // The rules of the words and signs of a condition.
 const spelled = (scene) => [
   [/^(?:~\s*exists|never|forbidden)\b\s*:?\s*/, 'check ', "the question is `check`; herd7's ~exists is the verdict never"],
@@ -16,7 +14,8 @@ const spelled = (scene) => [
   [/=>|->(?!\s*r[0-7]\b)/, null, 'there is no `=>`: `a => b` is `!(a) || b`'],
   [/(?<!&)&(?!&)/, '&&', 'and is `&&`'],
   [/(?<!\|)\|(?!\|)/, '||', 'or is `||`'],
-  [/(?<![\w.])P?(\d+)\s*[:.]\s*(r[0-7])\b/, nthAgent(scene.agents), 'a register is named by its agent, `A.r0`'],
+  [/(?<![\w.])P?(\d+)\s*[:.]\s*(r[0-7])\b/, ([, number, register]) => `${scene.agents[Number(number)] ?? 'NAME'}.${register}`,
+    'a register is named by its agent, `A.r0`'],
   [/\b([A-Za-z_]\w*)\s*(?::|->|_)\s*(r[0-7])\b/, '$1.$2', 'a register is named by its agent, `A.r0`'],
   [/(?<=[\w)])\s*[-+*%^]\s*(?=[\w(])/, null, 'there is no arithmetic: write out the values, joined by `||`'],
   [/\s*(?<![=!<>])=(?!=)\s*/, ' == ', 'a comparison is `==` or `!=`'],

@@ -14,8 +14,6 @@ const ARGUMENT = /\b(?:[aA]tomics?\s*(?:\.|::)\s*)?(?:\w+)\(\s*([A-Za-z_]\w*)\s*
 const GREATEST = 4096;  // an index, for which no block has room
 const LONGEST = 1000;   // characters of a line that somebody wrote by hand
 
-const isOwn = (name) => !KNOWN.test(name) && !new RegExp(`^${WIDE}$`).test(name);
-
 // Whether an access to U8, U16, U32 or DV stands in the code.
 const isOfBlock = (code) => /\b(?:U|I|Uint|Int|u|i)(?:8|16|32)(?:Array)?\s*(?:\[|,)\s*\d|\b[gs]etU?[iI]nt(?:8|16|32)\(/.test(code);
 
@@ -34,7 +32,7 @@ class Cells {
   }
 
   see(name, index) {
-    if (!isOwn(name)) return;
+    if (KNOWN.test(name) || new RegExp(`^${WIDE}$`).test(name)) return;
     const size = /^\d{1,4}$/.test(index) && Number(index) < GREATEST ? Number(index) + 1 : NaN;
     const before = this.sizes.get(name) ?? 0;
     this.sizes.set(name, Number.isNaN(size) || Number.isNaN(before) ? NaN : Math.max(size, before));

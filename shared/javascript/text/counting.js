@@ -21,8 +21,6 @@ const decisions = (statements) => statements.flatMap((each) => {
   return decides(each) ? [each.line] : [];
 });
 
-const linesOf = (numbers) => `line${numbers.length > 1 ? 's' : ''} ${numbers.join(', ')}`;
-
 function tooManyEvents(test) {
   const counts = test.agents.map(({ name, statements }) => ({ name, count: accesses(statements) }));
   const total = counts.reduce((sum, { count }) => sum + count, 0);
@@ -34,7 +32,7 @@ function tooManyEvents(test) {
 function tooManyPaths(test) {
   const told = test.agents.map(({ name, statements }) => {
     const lines = decisions(statements);
-    return `${name} has ${paths(statements)} paths${lines.length ? ` (${linesOf(lines)})` : ''}`;
+    return `${name} has ${paths(statements)} paths${lines.length ? ` (line${lines.length > 1 ? 's' : ''} ${lines.join(', ')})` : ''}`;
   });
   const total = product(test.agents.map(({ statements }) => paths(statements)));
   return [`${told.join(', ')}: ${total} combinations, and ${limits.combinations} at most`,

@@ -36,15 +36,13 @@ const spokenOf = (terminal) => ({
 // The line without its comment.
 const codeOf = (line) => line.split('//')[0];
 
-const isNumber = (text) => /^(?:0|[1-9][0-9]*)$/.test(text) && text.length <= limits.digits;
-
 function tokensOf(line) {
   const tokens = [];
   for (const piece of codeOf(line).matchAll(PIECE)) {
     const [text, word, number, symbol, blanks] = piece;
     if (blanks !== undefined) continue;
     let kind = word ? 'word' : number ? 'number' : symbol ? 'symbol' : 'wrong';
-    if ((word && word.length > limits.word) || (number && !isNumber(number))) kind = 'wrong';
+    if ((word && word.length > limits.word) || (number && (/^0./.test(number) || number.length > limits.digits))) kind = 'wrong';
     tokens.push({ kind, text, column: piece.index });
   }
   return tokens;

@@ -16,7 +16,6 @@ const METHODS = {
 };
 const HEADWORDS = ['test', 'bytes', 'agent', 'check'];
 
-const viewOf = (match) => `U${match.slice(1).find(Boolean)}`;
 const decimal = (match) => String(BigInt(match[0].replace(/n$/, '').replaceAll('_', '')));
 
 // -1 as the access's size has it.
@@ -47,8 +46,6 @@ function methodOf(word) {
   const name = word.replaceAll('_', '').toLowerCase();
   return METHODS[name] ?? near(name, CALLS);
 }
-
-const method = (match) => (methodOf(match[1]) ? `Atomics.${methodOf(match[1])}(` : match[0]);
 
 // What stands for an operation of Atomics that isn't there, by its line.
 const SIGNS_OF = { add: '+', sub: '-', and: '&', or: '|', xor: '^', increment: '+', fetch_add: '+', fetchAdd: '+' };
@@ -138,7 +135,7 @@ const SIGNS = [
 ];
 const ELEMENT = new RegExp(`\\b(?!U8\\b|U16\\b|U32\\b|DV\\b|${WIDE})([A-Za-z_]\\w*)\\[(\\d+)\\]`);
 const VIEWS = [
-  [VIEW, viewOf, 'the arrays are U8, U16 and U32; an Int32Array touches the same bytes as U32'],
+  [VIEW, (match) => `U${match.slice(1).find(Boolean)}`, 'the arrays are U8, U16 and U32; an Int32Array touches the same bytes as U32'],
   [new RegExp(WIDE), null, 'there are no floating and no 64-bit arrays: only U8, U16 and U32, so 64 bits are two accesses of U32'],
   [/\b(?:Uint8ClampedArray|U8C)\b/, 'U8', 'a Uint8ClampedArray touches the same bytes as U8'],
   [/\bU(8|16|32)\((\d+)\)/, 'U$1[$2]', 'an element stands in brackets'],
@@ -163,7 +160,7 @@ const ATOMICS = [
   [new RegExp(`Atomics\\.(${MISSING})\\b`), null, operation],
   [/Atomics\.isLockFree\b/, null, 'there is no Atomics.isLockFree: it accesses nothing, so leave it out'],
   [/Atomics\.(wait|waitAsync|notify|pause)\b/, null, 'there is no waiting and no waking: load the flag, and go on in an `if`'],
-  [/Atomics\.(\w+)\s*\(/, method, ACCESSES],
+  [/Atomics\.(\w+)\s*\(/, ([whole, word]) => (methodOf(word) ? `Atomics.${methodOf(word)}(` : whole), ACCESSES],
   [/Atomics\.(\w+)\(U(8|16|32)\[(\d+)\]/, 'Atomics.$1(U$2, $3', 'array and index are two arguments'],
   [new RegExp(ARRAY), argument, 'the array is U8, U16 or U32, views of the whole block: each name has cells of its own in it'],
   [new RegExp(ARRAY), null, (match, place) => place.scene.cells.why(match[2])],

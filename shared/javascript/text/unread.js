@@ -40,23 +40,22 @@ class Known {
 
 const keyOf = ({ agent, register, number }) => `${agent}.${register} ${number}`;
 
-// Whether a condition holds where its comparisons answer so, for whether register and number are equal.
-const holdsBy = (condition, answers) => meets(condition, (each) => answers.get(keyOf(each)) === each.equal);
-
-const distinct = (comparisons) => [...new Map(comparisons.map((each) => [keyOf(each), each])).values()];
-
 // Whether, on a path of which this is known, the condition may hang on this comparison: its answer changes with that of the comparison for
 // some answers of those of which nothing is known. Where these are many, or the time is up, it isn't asked.
 function hangsOn(condition, comparison, known, end) {
   const answerOf = ({ agent, register, number }) => (agent === comparison.agent ? known.answer(register, number) : null);
-  const every = distinct(comparisonsOf(condition));
+  const every = [...new Map(comparisonsOf(condition).map((each) => [keyOf(each), each])).values()];
   const open = every.filter((each) => answerOf(each) === null).map(keyOf);
   if (open.length > MOST) return false;
   const answers = new Map(every.map((each) => [keyOf(each), answerOf(each)]));
   for (let row = 0; row < 2 ** open.length; row += 1) {
     open.forEach((key, place) => answers.set(key, Math.floor(row / 2 ** place) % 2 === 0));
-    const given = [true, false].map((holds) => holdsBy(condition, new Map(answers).set(keyOf(comparison), holds)));
-    if (given[0] !== given[1]) return true;
+    // The answers say of comparisons whether register and number are equal.
+    const [one, other] = [true, false].map((isEqual) => {
+      answers.set(keyOf(comparison), isEqual);
+      return meets(condition, (each) => answers.get(keyOf(each)) === each.equal);
+    });
+    if (one !== other) return true;
     if (Date.now() > end) return false;
   }
   return false;
