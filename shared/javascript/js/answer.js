@@ -6,7 +6,6 @@ const { Refusal } = require('./refusal.js');
 const { shown, valueOf } = require('./values.js');
 
 const PATIENCE = 1000;   // milliseconds for a check of an outcome
-const VERDICTS = { all: 'always', some: 'sometimes', none: 'never' };
 
 // `// check: A !== B` on a line of its own, the last one of all files: {text, file, line}, or null.
 function checkIn(files) {
@@ -82,16 +81,13 @@ function answerOf(names, ended, asked) {
     const made = { text, isPerhaps, holds, leaves, values };
     const known = outcomes.get(text);
     if (!known) outcomes.set(text, made);
-    else {
-      const doAllHold = known.holds && holds;
-      if (isBetter(made, known)) Object.assign(known, made);
-      known.holds = doAllHold;
-    }
+    else if (isBetter(made, known)) outcomes.set(text, { ...made, holds: known.holds && holds });
+    else known.holds &&= holds;
   }
   const list = [...outcomes.values()].sort((a, b) => (a.text < b.text ? -1 : 1));
   const good = list.filter(({ holds }) => holds).length;
   const isAsked = check !== null || ended.some(({ leaves }) => leaves.some(({ failed }) => failed.length));
-  return { outcomes: list, verdict: isAsked ? VERDICTS[good === 0 ? 'none' : good === list.length ? 'all' : 'some'] : null };
+  return { outcomes: list, verdict: !isAsked ? null : good === 0 ? 'never' : good === list.length ? 'always' : 'sometimes' };
 }
 
 module.exports = { Check, answerOf, checkIn, dataIn, textOf, told };

@@ -152,7 +152,8 @@ class Reason {
   of(refusal) {
     switch (refusal.clause) {
       case 'happens-before': return [...this.chain(refusal.chains[0]), this.itself(refusal.event)];
-      case 'coherent-reads': return [this.incoherent(refusal), ...refusal.chains.flatMap((chain) => this.chain(chain))];
+      case 'coherent-reads': return [{ read: this.named(refusal.read), source: this.named(refusal.source),
+        hidden: refusal.hidden_by && this.named(refusal.hidden_by) }, ...refusal.chains.flatMap((chain) => this.chain(chain))];
       case 'tear-free-reads': return [{ read: this.named(refusal.read), torn: refusal.sources.map(this.named) }];
       case 'memory-order': return refusal.derivation === null ? [{ none: true }] : this.cycle(refusal.derivation);
       default: return [{ none: true }];
@@ -165,10 +166,6 @@ class Reason {
 
   itself(event) {
     return { before: this.named(event), itself: true };
-  }
-
-  incoherent({ read, source, hidden_by: other }) {
-    return { read: this.named(read), source: this.named(source), hidden: other === null ? null : this.named(other) };
   }
 
   step(line) {
