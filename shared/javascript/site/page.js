@@ -154,8 +154,8 @@ function showOutcome(outcome) {
 
 // Who asks for these goes to where they are shown.
 function showWhy() {
-  const never = told.verdict === 'never';
-  draw(never ? 'Why not: an attempt to meet the condition' : 'Why always: an attempt to fail the condition', 'why', 'why', { unmet: !never });
+  const unmet = told.verdict !== 'never';
+  draw(unmet ? 'Why always: an attempt to fail the condition' : 'Why not: an attempt to meet the condition', 'why', 'why', { unmet });
   byId('example-title').focus();
 }
 
