@@ -86,9 +86,10 @@ function leastBusy(processors, busy) {
   return [...processors].sort((one, other) => ranks.get(one) - ranks.get(other));
 }
 
-// How busy all processors were since `before`, as a number of processors.
+// How busy the processors that this process may use were since `before`, as a number of processors.
 function busySince(before) {
-  return [...busyBetween(before, ticksOf()).values()].reduce((sum, part) => sum + part, 0);
+  const busy = busyBetween(before, ticksOf());
+  return allowed().reduce((sum, number) => sum + (busy.get(number) ?? 0), 0);
 }
 
 const threadsOf = (pid) => namesIn(`/proc/${pid}/task`).map((thread) => (
