@@ -1,7 +1,6 @@
 -- Workers whose calls have ended, and the places that they give back.
 use Rattle.std.proofs.Common.{◌≡◌, ℕ, ◌<◌, List, [], ◌∷◌, length, Result, refl, arith}
-use Rattle.std.specs.Option.{MatchOption}
-use Rattle.std.specs.Prelude.{All, Any, Option, None, Some}
+use Rattle.std.specs.Prelude.{All, Any}
 use Rattle.lit_desk.specs.Desk.{DeskName, PlaceLists}
 use Rattle.lit_syntax.specs.Syntax.{Litmus}
 use Rattle.lit_search.specs.Report.{Report}
@@ -22,11 +21,6 @@ pub hunted_ended : {P : Type 0} (t : Litmus) (cut : ℕ) (desk : DeskName) (w : 
 hunted_ended t cut desk (Ready worker place pass) h none = h
 hunted_ended t cut desk (Ended place answer) h none = none place answer refl
 hunted_ended t cut desk Away h none = h
-
--- ---- what holds where there is no answer holds if there is none
-pub where_none : {X : Type 0} (o : Option X) (A : Type 0) (P : X → Type 0) → ((x : X) → o ≡ Some x → ⊥) → MatchOption o A P → A
-where_none None A P none holds = holds
-where_none (Some x) A P none holds = absurd (none x refl)
 
 -- ---- what holds of all of some places holds of one
 pub any_of_all : {X : Type 0} (P : X → Type 0) (xs : List X) → 0 < length xs → All P xs → Any P xs

@@ -1,6 +1,6 @@
 //! A search for all outcomes by several workers.
 
-ghost use Rattle.std.specs.Prelude.{◌≡◌, ◌<◌, ◌≤◌, length, All, IfOk, MatchOption};
+ghost use Rattle.std.specs.Prelude.{◌≡◌, ◌<◌, ◌≤◌, length, All, IfOk};
 ghost use Rattle.std.specs.Thread.{IsSync};
 ghost use Rattle.lit_paths.specs.Choice.{choices_of};
 ghost use Rattle.lit_desk.specs.Desk.{IsPlaceOf, IsDone, all_draws};
@@ -12,8 +12,7 @@ ghost use Rattle.lit_share.specs.Internal.Workers.{IsReady, HasSearched};
 use crate::fault::ShareFault;
 use crate::gate::Gate;
 use crate::limits::CUT_LIMIT;
-use crate::race::{DrawerBeat, Race};
-use crate::search_worker::work_with;
+use crate::search_worker::work;
 use crate::worker::{Worker, workers_at};
 use lit_desk::{Desk, Place};
 use lit_paths::Plan;
@@ -22,16 +21,16 @@ use std::alloc::Global;
 use std::mem;
 use std::thread::{Threads, join_mut};
 
-/// A worker of a search, with the answer of `work_with`.
+/// A worker of a search, with the answer of `work`.
 type Searcher<P> = Worker<P, Result<Found, ShareFault>>;
 
-/// Makes one worker's call of `work_with`.
+/// Makes one worker's call of `work`.
 fn search_one<P: Send + Drop, G: Gate<Pass = P>>(
     alloc: &Global,
     plan: &Plan<'_>,
     cut: &u64,
     desk: &Desk,
-    race: &Race<'_, G>,
+    gate: &G,
     worker: &mut Searcher<P>,
 )
     requires cut { (0 < cut.now) × (cut.now ≤ CUT_LIMIT) }
@@ -40,17 +39,7 @@ fn search_one<P: Send + Drop, G: Gate<Pass = P>>(
     ensures { HasSearched plan.now cut.now desk.now worker.new }
 {
     if let Worker::Ready(number, place, pass) = mem::replace(worker, Worker::Away) {
-        let (place, answer) = work_with(
-            *alloc,
-            plan,
-            *cut,
-            desk,
-            place,
-            race,
-            &DrawerBeat { race },
-            pass,
-            number,
-        );
+        let (place, answer) = work(*alloc, plan, *cut, desk, place, gate, pass, number);
         *worker = Worker::Ended(place, answer);
     }
 }
@@ -63,7 +52,7 @@ fn search_all<R: Threads + Sync, P: Send + Drop, G: Gate<Pass = P>>(
     plan: &Plan<'_>,
     cut: &u64,
     desk: &Desk,
-    race: &Race<'_, G>,
+    gate: &G,
     workers: &mut [Searcher<P>],
 )
     requires cut { (0 < cut.now) × (cut.now ≤ CUT_LIMIT) }
@@ -73,7 +62,7 @@ fn search_all<R: Threads + Sync, P: Send + Drop, G: Gate<Pass = P>>(
     ensures { All (HasSearched plan.now cut.now desk.now) workers.new }
 {
     if workers.len() == 1 {
-        search_one(alloc, plan, cut, desk, race, &mut workers[0]);
+        search_one(alloc, plan, cut, desk, gate, &mut workers[0]);
         return;
     }
     let (front, back) = workers.split_at_mut(workers.len() / 2);
@@ -84,63 +73,14 @@ fn search_all<R: Threads + Sync, P: Send + Drop, G: Gate<Pass = P>>(
                 × (desk.now.pieces ≡ pieces_of (length (choices_of plan.now)) cut.now)
                 × (0 < length front.now) × All (IsReady desk.now) front.now }
             ensures { All (HasSearched plan.entry.now cut.entry.now desk.entry.now) front.exit.now }
-        { search_all(rt, alloc, plan, cut, desk, race, front) },
+        { search_all(rt, alloc, plan, cut, desk, gate, front) },
         &mut ||
             requires { IsSync R.row × (0 < cut.now) × (cut.now ≤ CUT_LIMIT)
                 × (desk.now.pieces ≡ pieces_of (length (choices_of plan.now)) cut.now)
                 × (0 < length back.now) × All (IsReady desk.now) back.now }
             ensures { All (HasSearched plan.entry.now cut.entry.now desk.entry.now) back.exit.now }
-        { search_all(rt, alloc, plan, cut, desk, race, back) },
+        { search_all(rt, alloc, plan, cut, desk, gate, back) },
     );
-}
-
-/// Makes the calls of all workers, the first of them only once it has given up to search all choices alone, if it is asked to. The answer
-/// is what it found alone.
-fn race_all<R: Threads + Sync, P: Send + Drop, G: Gate<Pass = P>>(
-    rt: &R,
-    alloc: &Global,
-    plan: &Plan<'_>,
-    cut: &u64,
-    desk: &Desk,
-    race: &Race<'_, G>,
-    workers: &mut [Searcher<P>],
-) -> Option<Found>
-    requires cut { (0 < cut.now) × (cut.now ≤ CUT_LIMIT) }
-    requires pieces { desk.now.pieces ≡ pieces_of (length (choices_of plan.now)) cut.now }
-    requires some { 0 < length workers.old }
-    requires ready { All (IsReady desk.now) workers.old }
-    ensures { MatchOption result (All (HasSearched plan.now cut.now desk.now) workers.new)
-        (IsReport plan.now (in_range 0 (length (choices_of plan.now)))) }
-{
-    if workers.len() == 1 || !race.is_run() {
-        search_all(rt, alloc, plan, cut, desk, race, workers);
-        return None;
-    }
-    let mut whole = None;
-    let found = &mut whole;
-    let (first, others) = workers.split_at_mut(1);
-    join_mut(
-        rt,
-        &mut ||
-            requires { IsSync R.row × (0 < cut.now) × (cut.now ≤ CUT_LIMIT)
-                × (desk.now.pieces ≡ pieces_of (length (choices_of plan.now)) cut.now)
-                × (0 < length others.now) × All (IsReady desk.now) others.now }
-            ensures { All (HasSearched plan.entry.now cut.entry.now desk.entry.now) others.exit.now }
-        { search_all(rt, alloc, plan, cut, desk, race, others) },
-        &mut ||
-            requires { IsSync R.row × (0 < cut.now) × (cut.now ≤ CUT_LIMIT)
-                × (desk.now.pieces ≡ pieces_of (length (choices_of plan.now)) cut.now)
-                × (0 < length first.now) × All (IsReady desk.now) first.now }
-            ensures { MatchOption found.exit.now (All (HasSearched plan.entry.now cut.entry.now desk.entry.now) first.exit.now)
-                (IsReport plan.entry.now (in_range 0 (length (choices_of plan.entry.now)))) }
-        {
-            *found = race.search_alone(*alloc, plan);
-            if found.is_none() {
-                search_all(rt, alloc, plan, cut, desk, race, first);
-            }
-        },
-    );
-    whole
 }
 
 /// The places of all workers, and their answers merged (decision 53).
@@ -172,29 +112,6 @@ fn merged<P: Drop>(
     Ok((places, found))
 }
 
-/// The report of all choices of a plan, by workers who may race.
-fn search_by<R: Threads + Sync, G: Gate>(
-    rt: &R,
-    alloc: Global,
-    plan: &Plan<'_>,
-    cut: u64,
-    race: &Race<'_, G>,
-    passes: Vec<G::Pass>,
-) -> Result<Found, ShareFault>
-    requires cut { (0 < cut) × (cut ≤ CUT_LIMIT) }
-    requires passes { (0 < length passes.items) × (length passes.items ≤ MOST_SEATS) }
-    ensures { IfOk result (IsReport plan.now (in_range 0 (length (choices_of plan.now)))) }
-{
-    let (desk, places) = Desk::open(alloc, plan.total().div_ceil(cut), passes.len())?;
-    let mut workers = workers_at(alloc, &desk, places, passes)?;
-    if let Some(found) = race_all(rt, &alloc, plan, &cut, &desk, race, &mut workers) {
-        return Ok(found);
-    }
-    let (places, found) = merged(alloc, plan, cut, &desk, workers)?;
-    desk.close(places);
-    Ok(found)
-}
-
 /// The report of all choices of a plan, by as many workers as there are passes: 1 to `MOST_SEATS` of `lit_desk`. The
 /// choices are cut into pieces of `cut` choices, 1 to `CUT_LIMIT`; the workers draw these from one desk, each by one call
 /// of `work`. Answers `ShareFault::OutOfMemory` where a growth was refused, in any worker.
@@ -210,24 +127,10 @@ pub fn search<R: Threads + Sync, G: Gate>(
     requires passes { (0 < length passes.items) × (length passes.items ≤ MOST_SEATS) }
     ensures { IfOk result (IsReport plan.now (in_range 0 (length (choices_of plan.now)))) }
 {
-    search_by(rt, alloc, plan, cut, &Race::new(gate, 0), passes)
-}
-
-/// This is `search`, but the first of several workers begins with all choices, alone, and draws pieces only once `enough` of them were
-/// entered: if it is done before, the others end, so that this takes hardly longer than one worker does. If `enough` is 0 it draws pieces
-/// at once.
-pub fn search_in_race<R: Threads + Sync, G: Gate>(
-    rt: &R,
-    alloc: Global,
-    plan: &Plan<'_>,
-    cut: u64,
-    enough: u64,
-    gate: &G,
-    passes: Vec<G::Pass>,
-) -> Result<Found, ShareFault>
-    requires cut { (0 < cut) × (cut ≤ CUT_LIMIT) }
-    requires passes { (0 < length passes.items) × (length passes.items ≤ MOST_SEATS) }
-    ensures { IfOk result (IsReport plan.now (in_range 0 (length (choices_of plan.now)))) }
-{
-    search_by(rt, alloc, plan, cut, &Race::new(gate, enough), passes)
+    let (desk, places) = Desk::open(alloc, plan.total().div_ceil(cut), passes.len())?;
+    let mut workers = workers_at(alloc, &desk, places, passes)?;
+    search_all(rt, &alloc, plan, &cut, &desk, gate, &mut workers);
+    let (places, found) = merged(alloc, plan, cut, &desk, workers)?;
+    desk.close(places);
+    Ok(found)
 }

@@ -15,12 +15,11 @@ mod pieces;
 mod quick_answer;
 mod quick_search;
 mod quick_worker;
-mod race;
 mod search_worker;
 mod worker;
 
 pub use fault::ShareFault;
-pub use full_search::{search, search_in_race};
+pub use full_search::search;
 pub use gate::{Gate, OpenGate};
 pub use limits::{CUT_LIMIT, WORKER_LIMIT};
 pub use quick_answer::Quick;

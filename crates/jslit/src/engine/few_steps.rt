@@ -1,5 +1,5 @@
-//! The search of all choices by the thread that calls, given up after some steps, before any worker begins: what ends sooner isn't worth
-//! threads, and a worker that looks for a data race can't be ended by another (decision 63).
+//! The search of all choices by the thread that calls, given up after some steps, before workers share the choices: what ends sooner
+//! mostly takes several workers longer, since each piece is searched for its outcomes anew (decision 63).
 
 ghost use Rattle.std.specs.Prelude.{length, IfSome};
 ghost use Rattle.lit_paths.specs.Choice.{choices_of};

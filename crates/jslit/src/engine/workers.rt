@@ -20,13 +20,10 @@ use lit_paths::{Plan, plan};
 use lit_read::read;
 use lit_report::{Counted, Pages, pages_for};
 use lit_search::{Class, Example, Found};
-use lit_share::{Quick, quick, search_in_race};
+use lit_share::{Quick, quick, search};
 use std::alloc::{AllocError, Global};
 use std::io::Write;
 use std::thread::Threads;
-
-/// One worker searches all choices alone until the others have entered one piece of so many (decision 63).
-const RACE_SHARE: u64 = 4;
 
 /// A pass for each worker. The passes carry nothing.
 pub(crate) fn passes(alloc: Global, workers: usize) -> Result<Vec<()>, AllocError>
@@ -52,15 +49,14 @@ fn found_by<T: Threads + Sync, G: Watch>(
 {
     let cut = cut_for_outcomes(plan, options);
     let pieces = plan.total().div_ceil(cut);
-    let mut enough = 0;
-    if pieces > 1 && !watch.follows_pieces() {
-        if let Some(found) = found_soon(alloc, plan) {
-            return Ok(found);
-        }
-        enough = pieces.div_ceil(RACE_SHARE);
+    if pieces > 1
+        && !watch.follows_pieces()
+        && let Some(found) = found_soon(alloc, plan)
+    {
+        return Ok(found);
     }
     watch.begin(pieces);
-    let searched = search_in_race(rt, alloc, plan, cut, enough, watch, passes);
+    let searched = search(rt, alloc, plan, cut, watch, passes);
     watch.end();
     let found = searched?;
     Ok(found)

@@ -10,7 +10,7 @@ use Rattle.lit_share.specs.Pieces.{in_pieces}
 use Rattle.lit_share.proofs.Cutting.{pieces_more, same_piece, start_behind}
 use Rattle.lit_share.proofs.Rising.{above, above_least, above_last, since_none, since_more}
 use Rattle.lit_share.proofs.Drawing.{drew_late, drew_more, found_so, on_ok, only_late, only_more}
-use Rattle.lit_share.proofs.search_worker.work_with.Goals as goal
+use Rattle.lit_share.proofs.search_worker.work.Goals as goal
 
 pub loop-number-init : goal.loop-number-init
 loop-number-init g c =

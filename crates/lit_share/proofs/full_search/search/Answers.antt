@@ -6,9 +6,9 @@ use Rattle.lit_search.specs.Report.{IsReport, in_range}
 use Rattle.lit_share.specs.Internal.Workers.{HasSearched, IsReady}
 use Rattle.lit_share.specs.Pieces.{in_pieces, pieces_of}
 use Rattle.lit_share.proofs.Cutting.{pieces_all}
-use Rattle.lit_share.proofs.Ending.{any_of_all, where_none}
+use Rattle.lit_share.proofs.Ending.{any_of_all}
 use Rattle.lit_share.proofs.Staffed.{all_copies, all_over, length_over}
-use Rattle.lit_share.proofs.full_search.search_by.Goals as goal
+use Rattle.lit_share.proofs.full_search.search.Goals as goal
 
 pub returns : goal.returns
 returns g c =
@@ -29,15 +29,15 @@ workers_at-requires-clause-new g c = all_copies c.len.result (new_place c.in_ok-
 pub workers_at-requires-clause-passes : goal.workers_at-requires-clause-passes
 workers_at-requires-clause-passes g c = omega (arith, c.in_ok-desk.ensures.count, c.len.ensures, c.args.passes.ok.0)
 
-pub race_all-requires-clause-cut : goal.race_all-requires-clause-cut
-race_all-requires-clause-cut g c κs lives = c.requires.cut
+pub search_all-requires-clause-cut : goal.search_all-requires-clause-cut
+search_all-requires-clause-cut g c κs lives = c.requires.cut
 
-pub race_all-requires-clause-pieces : goal.race_all-requires-clause-pieces
-race_all-requires-clause-pieces g c κs lives =
+pub search_all-requires-clause-pieces : goal.search_all-requires-clause-pieces
+search_all-requires-clause-pieces g c κs lives =
     c.in_ok-desk.ensures.desk.0 ∙ c.div_ceil.ensures ∙ ap (λ (k : ℕ). pieces_of k c.args.cut) c.total.ensures.value
 
-pub race_all-requires-clause-some : goal.race_all-requires-clause-some
-race_all-requires-clause-some g c κs lives =
+pub search_all-requires-clause-some : goal.search_all-requires-clause-some
+search_all-requires-clause-some g c κs lives =
     omega (
       arith,
       c.deref_mut.ensures.len,
@@ -49,17 +49,17 @@ race_all-requires-clause-some g c κs lives =
       c.requires.passes.0,
     )
 
-pub race_all-requires-clause-ready : goal.race_all-requires-clause-ready
-race_all-requires-clause-ready g c κs lives = subst (All (IsReady c.in_ok-desk.desk)) (sym c.deref_mut.ensures.value)
+pub search_all-requires-clause-ready : goal.search_all-requires-clause-ready
+search_all-requires-clause-ready g c κs lives = subst (All (IsReady c.in_ok-desk.desk)) (sym c.deref_mut.ensures.value)
     c.in_ok-workers.ensures.ready
 
 pub merged-requires-clause-some : goal.merged-requires-clause-some
 merged-requires-clause-some g c =
-    let whole : c.in_ok-workers.workers.len ≡ length c.race_all.new.workers = omega
-    (arith, c.race_all.auto.workers, c.deref_mut.ensures.len) in
+    let whole : c.in_ok-workers.workers.len ≡ length c.search_all.new.workers = omega
+    (arith, c.search_all.auto.workers, c.deref_mut.ensures.len) in
     omega (
       arith,
-      length_over c.in_ok-workers.workers.items c.race_all.new.workers c.in_ok-workers.workers.len whole,
+      length_over c.in_ok-workers.workers.items c.search_all.new.workers c.in_ok-workers.workers.len whole,
       c.in_ok-workers.workers.ok.0,
       c.in_ok-workers.ensures.count,
       c.in_ok-desk.ensures.count,
@@ -70,22 +70,19 @@ merged-requires-clause-some g c =
 
 pub merged-requires-clause-ended : goal.merged-requires-clause-ended
 merged-requires-clause-ended g c =
-    let t = c.args.plan.now in
-    let searched = where_none c.race_all.result (All (HasSearched t c.args.cut c.in_ok-desk.desk) c.race_all.new.workers)
-    (IsReport t (in_range 0 (length (choices_of t)))) c.in_default.not-Some c.race_all.ensures in
-    all_over (HasSearched t c.args.cut c.in_ok-desk.desk) c.in_ok-workers.workers.items c.race_all.new.workers
+    all_over (HasSearched c.args.plan.now c.args.cut c.in_ok-desk.desk) c.in_ok-workers.workers.items c.search_all.new.workers
     c.in_ok-workers.workers.len
-    (omega (arith, c.race_all.auto.workers, c.deref_mut.ensures.len)) searched
+    (omega (arith, c.search_all.auto.workers, c.deref_mut.ensures.len)) c.search_all.ensures
 
 pub close-requires : goal.close-requires
 close-requires g c =
-    let whole : c.in_ok-workers.workers.len ≡ length c.race_all.new.workers = omega
-    (arith, c.race_all.auto.workers, c.deref_mut.ensures.len) in record {
+    let whole : c.in_ok-workers.workers.len ≡ length c.search_all.new.workers = omega
+    (arith, c.search_all.auto.workers, c.deref_mut.ensures.len) in record {
       own = c.in_ok-places.ensures.own;
       all = omega (
         arith,
         c.in_ok-places.ensures.count,
-        length_over c.in_ok-workers.workers.items c.race_all.new.workers c.in_ok-workers.workers.len whole,
+        length_over c.in_ok-workers.workers.items c.search_all.new.workers c.in_ok-workers.workers.len whole,
         c.in_ok-workers.workers.ok.0,
         c.in_ok-workers.ensures.count,
         c.in_ok-desk.ensures.count,

@@ -5,7 +5,7 @@ use Rattle.lit_search.specs.Collected.{HasTaken}
 use Rattle.lit_share.specs.Pieces.{in_pieces}
 use Rattle.lit_share.specs.Drawn.{drawn_since, DrewOn, OnlyDrew}
 use Rattle.lit_share.proofs.Rising.{above}
-use Rattle.lit_share.proofs.search_worker.work_with.Given as goal
+use Rattle.lit_share.proofs.search_worker.work.Given as goal
 
 abbrev pub invariant-loop-number : goal.invariant-loop-number
 invariant-loop-number g l = record {
