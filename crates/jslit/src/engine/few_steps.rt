@@ -11,7 +11,7 @@ use std::alloc::{AllocError, Global};
 use std::sync::atomic::{AtomicU64, Ordering};
 
 /// How many steps down the search may make: some milliseconds, or tens of them where each propagates.
-const FEW_STEPS: u64 = 4_000;
+const FEW_STEPS: u64 = 6_000;
 
 /// A heartbeat that ends a search after a few steps.
 #[derive(Drop)]
