@@ -27,6 +27,10 @@ impl<G: Gate> Heartbeat for GateBeat<'_, G> {
         self.gate.alive();
         Ok(())
     }
+
+    fn product_beat(&self) -> Result<(), AllocError> {
+        self.beat()
+    }
 }
 
 /// A gate that does nothing.

@@ -5,8 +5,13 @@ use std::alloc::AllocError;
 /// What a search for outcomes calls at each step down, so that a caller can tell that it still runs, or end it. No other answer depends
 /// on it.
 pub trait Heartbeat {
-    /// The search has descended one step. An error ends it, as memory that is refused does.
+    /// The search has descended one step, mostly with what that forces. An error ends it, as memory that is refused does.
     fn beat(&self) -> Result<(), AllocError> {
+        Ok(())
+    }
+
+    /// This is `beat` at a step of a product of values: such a step propagates nothing, and takes a hundredth of the time of others.
+    fn product_beat(&self) -> Result<(), AllocError> {
         Ok(())
     }
 }

@@ -168,7 +168,7 @@ impl Problem<'_> {
         laws_below();
         leaves_are_filled_read_by_read();
         let _first = first_of(&self.combination);
-        heartbeat.beat()?;
+        heartbeat.product_beat()?;
         let Some((first, rest)) = reads.split_first() else {
             let outcome = values.as_slice();
             if table.has(outcome) {

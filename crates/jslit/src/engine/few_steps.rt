@@ -10,8 +10,11 @@ use lit_search::{Found, Heartbeat, search_range_with};
 use std::alloc::{AllocError, Global};
 use std::sync::atomic::{AtomicU64, Ordering};
 
-/// How many steps down the search may make: some milliseconds, or tens of them where each propagates.
-const FEW_STEPS: u64 = 6_000;
+/// How long the search may last, in steps of a product: some tens of milliseconds.
+const FEW_STEPS: u64 = 600_000;
+
+/// As how many steps of a product a step counts that propagates.
+const PROPAGATING: u64 = 100;
 
 /// A heartbeat that ends a search after a few steps.
 #[derive(Drop)]
@@ -19,13 +22,24 @@ struct FewSteps {
     made: AtomicU64,
 }
 
-impl Heartbeat for FewSteps {
-    fn beat(&self) -> Result<(), AllocError> {
-        if self.made.fetch_add(1, Ordering::SeqCst) < FEW_STEPS {
+impl FewSteps {
+    /// Counts more steps.
+    fn count(&self, steps: u64) -> Result<(), AllocError> {
+        if self.made.fetch_add(steps, Ordering::SeqCst) < FEW_STEPS {
             Ok(())
         } else {
             Err(AllocError)
         }
+    }
+}
+
+impl Heartbeat for FewSteps {
+    fn beat(&self) -> Result<(), AllocError> {
+        self.count(PROPAGATING)
+    }
+
+    fn product_beat(&self) -> Result<(), AllocError> {
+        self.count(1)
     }
 }
 
