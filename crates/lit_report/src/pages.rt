@@ -21,7 +21,10 @@ use std::mem;
 use std::thread::{Threads, join_mut};
 
 /// How many entries a page has: so many that a thread for them is worth its start.
-const PAGE_LIMIT: usize = 16_384;
+const PAGE_LIMIT: usize = 8_192;
+
+/// How many pages each worker prints at the least. With fewer, to start threads and to get memory for pages takes as long as to print.
+const FEW_PAGES: usize = 5;
 
 /// A page: the text of the entries from one place up to another.
 #[derive(Drop)]
@@ -40,13 +43,13 @@ fn pages_of(entries: usize) -> usize
     entries.div_ceil(PAGE_LIMIT).max(1)
 }
 
-/// The empty pages for a report with so many entries: none where a page would hold the report or a worker is alone, else one for
-/// each worker, but no more than the report needs.
+/// The empty pages for a report with so many entries: one for each worker that has some pages to print, or none where that is one
+/// worker alone.
 pub fn pages_for(alloc: Global, entries: usize, workers: usize) -> Result<Vec<Page>, AllocError>
     ensures few { IfOk result (λ pages. length pages.items ≤ workers) }
 {
     let mut pages = Vec::new(alloc);
-    let count = workers.min(pages_of(entries));
+    let count = workers.min(pages_of(entries) / FEW_PAGES);
     if count > 1 {
         for _page in 0..count {
             pages.push(Page {

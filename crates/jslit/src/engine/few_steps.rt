@@ -10,11 +10,11 @@ use lit_search::{Found, Heartbeat, search_range_with};
 use std::alloc::{AllocError, Global};
 use std::sync::atomic::{AtomicU64, Ordering};
 
-/// How long the search may last, in steps of a product: some tens of milliseconds.
-const FEW_STEPS: u64 = 600_000;
+/// How long the search may last, in steps of a product: some tens of milliseconds, since most of these record an outcome.
+const FEW_STEPS: u64 = 96_000;
 
-/// As how many steps of a product a step counts that propagates.
-const PROPAGATING: u64 = 100;
+/// As how many of them a step counts that propagates.
+const PROPAGATING: u64 = 16;
 
 /// A heartbeat that ends a search after a few steps.
 #[derive(Drop)]
