@@ -2,4 +2,4 @@
 
 /// What `--version` prints behind a program's name: the version, and the line of the toolchain that proves and builds it.
 pub const VERSION: &str = "0.1.0
-rattle-kit-13f logic dac8208d650f15bf";
+rattle-kit-13b logic dac8208d650f15bf";
