@@ -1,6 +1,6 @@
 -- Solutions of a box and of its branches.
 use Rattle.lit_solve.proofs.Words.{◌<◌, arith, Box, box_events, Branch, byte_reads, event_or_not, EventSet, Execution, get_or, Goal}
-use Rattle.lit_solve.proofs.Words.{GoesWith, HasEvent, HasSource, IsBranch, IsRestricted, IsSolution, IsSplit, IsWithin, length, same_Some}
+use Rattle.lit_solve.proofs.Words.{GoesWith, HasEvent, HasSolutionIn, HasSource, IsBranch, IsRestricted, IsSolution, IsSplit, IsWithin, length, same_Some}
 use Rattle.lit_solve.proofs.Words.{slice_get, slice_get-get_or, Some, split_less_yet, subst, sym, TakesFrom, ℕ, ◌↔◌, ◌≡◌}
 use Rattle.lit_solve.proofs.CompletionLemmas.{sourced}
 use Rattle.lit_solve.proofs.PruningLemmas.{read_here}
@@ -13,6 +13,12 @@ solution_out inner outer goal within x is = grind arith
 pub solution_in : (old new : Box) (goal : Goal) (k : ℕ) (set : EventSet) → IsRestricted old k set new → (x : Execution) → IsSolution old goal x
     → TakesFrom x k set → IsSolution new goal x
 solution_in old new goal k set restricted x is takes = grind arith
+
+-- a solution that is a completion of another box stays, where a domain is restricted to a set that has all sources of that box there
+pub stays_in : (old new other : Box) (goal : Goal) (k : ℕ) (set : EventSet) → IsRestricted old k set new → HasSolutionIn old goal other
+    → ((w : ℕ) → HasSource other k w → HasEvent set w) → HasSolutionIn new goal other
+stays_in old new other goal k set restricted found all =
+    (found.0, solution_in old new goal k set restricted found.0 found.1 (λ w at. all w (found.2.within k w at)), found.2)
 
 -- the part of one source doesn't have all sources
 module _ (box : Box) (branch : Branch) (is : IsBranch box branch) (source : ℕ) (there : HasSource box branch.place source) (part : EventSet) where

@@ -70,7 +70,7 @@ pub use Rattle.lit_solve.specs.Internal.Product.{AgreeBeside, AreDistinct, AreOp
 pub use Rattle.lit_solve.specs.Internal.Product.{IsChosen, IsListed, IsNumberWithout, IsOpenRead, IsValueBeside, Observes, shares_below}
 pub use Rattle.lit_solve.specs.Internal.Pruning.{HasNoCompletion, Prunes, size_of}
 pub use Rattle.lit_solve.specs.Internal.ReadValues.{AddsFillings, AreFillings, HasValue, HaveEachValue, IsFilling}
-pub use Rattle.lit_solve.specs.Internal.Searching.{GoesWith, IsBranch}
+pub use Rattle.lit_solve.specs.Internal.Searching.{GoesWith, HasSolutionIn, IsBranch}
 pub use Rattle.lit_solve.specs.Internal.Fixpoint.{IsRestricted, IsFixpoint, IsFixpointBelow, TakesFrom}
 pub use Rattle.lit_solve.specs.Internal.SoundRange.{IsSoundRange}
 pub use Rattle.lit_solve.specs.Outcomes.{AddsEntries, AreNewEntries, HasEachOutcome, IsLeastEntry}

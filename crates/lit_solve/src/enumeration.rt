@@ -4,7 +4,7 @@
 ghost use Rattle.std.specs.Prelude.{◌≡◌, ◌<◌, IfNone, IfSome, IsNone, OnOk, length};
 ghost use Rattle.lit_paths.specs.ByteReads.{byte_reads};
 ghost use Rattle.lit_paths.specs.Execution.{Execution, execution_outcome};
-ghost use Rattle.lit_solve.specs.Box.{IsWithin, events_on};
+ghost use Rattle.lit_solve.specs.Box.{IsWithin, box_with, events_on};
 ghost use Rattle.lit_solve.specs.Completion.{IsCompletion};
 ghost use Rattle.lit_solve.specs.Internal.Frames.{IsContained, box_of};
 ghost use Rattle.lit_solve.specs.Internal.Observation.{AreFirstValues};
@@ -15,6 +15,7 @@ ghost use Rattle.lit_solve.specs.Prospect.{IsUndecidedAt};
 ghost use Rattle.lit_valid.specs.Entry.{HasOutcome};
 
 use crate::branching::count;
+use crate::domains::Domains;
 use crate::frame::Frame;
 use crate::goal::Goal;
 use crate::heartbeat::Heartbeat;
@@ -92,18 +93,20 @@ impl Problem<'_> {
         ways <= MOST_WAYS && ways <= self.values_of(frame).saturating_mul(WAYS_OF_AN_OUTCOME)
     }
 
-    /// Records the outcome of a completion of a frame, by its sources, if the table lacks it: with its least example in the frame. The
-    /// outcome begins with the given values.
+    /// Records the outcome of a completion of a frame, by its sources, if the table lacks it: with its least example in the frame. `leaf`
+    /// has this completion too. The outcome begins with the given values.
     fn record_alike<T: OutcomeTable>(
         &self,
         frame: &Frame,
         sources: &[u8],
+        leaf: &Domains,
         values: &Values,
         table: &mut T,
     ) -> Result<(), AllocError>
         requires fixpoint { IsFixpoint (box_of self.now frame.now) frame.now }
         requires first { AreFirstValues (box_of self.now frame.now) values.now.items }
-        requires completes { (x : Execution) × IsCompletion (box_of self.now frame.now) x × (x.sources ≡ sources.now) }
+        requires completes { (x : Execution) × IsCompletion (box_of self.now frame.now) x × (x.sources ≡ sources.now)
+            × IsCompletion (box_with self.now leaf.now) x }
         ensures added { AddsEntries (box_of self.now frame.now) (T.entries table.old) (T.entries table.new) }
         ensures has { OnOk result ((x : Execution) → IsCompletion (box_of self.now frame.now) x → x.sources ≡ sources.now
             → HasOutcome (T.entries table.new) (execution_outcome self.now.0 x)) }
@@ -112,7 +115,7 @@ impl Problem<'_> {
         laws_below();
         let mut values = values.clone()?;
         let Some(place) = self.observe(&frame.domains, &mut values) else {
-            self.record(frame, values.as_slice(), true, false, table)?;
+            self.record(frame, values.as_slice(), Some(leaf), table)?;
             return Ok(());
         };
         // For the prover: a combination has few events.
@@ -121,7 +124,7 @@ impl Problem<'_> {
         let group = self.storing_same(all, place, usize::from(sources[place]));
         let mut next = *frame;
         if self.restrict(&mut next, place, group) {
-            return self.record_alike(&next, sources, &values, table);
+            return self.record_alike(&next, sources, leaf, &values, table);
         }
         Ok(())
     }
@@ -171,10 +174,11 @@ impl Problem<'_> {
             return Ok(());
         }
         let Some(branch) = self.next_branch(frame, open) else {
-            let Some(least) = self.least(frame, Goal::Any, false) else {
+            let Some(least) = self.least(frame, Goal::Any, None) else {
                 return Ok(());
             };
-            return self.record_alike(root, least.sources.as_slice(), &Values::new(), table);
+            let sources = least.sources.as_slice();
+            return self.record_alike(root, sources, &frame.domains, &Values::new(), table);
         };
         let mut left = self.sources_left(frame, branch.place);
         while let Some((source, _others)) = left.split_first() {

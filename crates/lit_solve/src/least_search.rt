@@ -1,12 +1,13 @@
 //! The least solution of a frame: by greedy descent, and by a complete search where the descent ends at none.
 
-ghost use Rattle.std.specs.Prelude.{◌≡◌, IsFalse, IsTrue, MatchOption, length};
+ghost use Rattle.std.specs.Prelude.{◌≡◌, IfSome, IsFalse, IsTrue, MatchOption, length};
 ghost use Rattle.lit_paths.specs.ByteReads.{byte_reads};
 ghost use Rattle.lit_solve.specs.Box.{IsBox, LiesIn, box_with, events_on};
 ghost use Rattle.lit_solve.specs.Completion.{HasSolution, IsLeastSolution};
 ghost use Rattle.lit_solve.specs.Internal.Descending.{AreAloneBelow, IsLowest};
 ghost use Rattle.lit_solve.specs.Internal.Frames.{box_of};
 ghost use Rattle.lit_solve.specs.Internal.Fixpoint.{IsFixpoint};
+ghost use Rattle.lit_solve.specs.Internal.Searching.{HasSolutionIn};
 
 use crate::domains::{Domains, only_one};
 use crate::frame::Frame;
@@ -42,11 +43,11 @@ impl Problem<'_> {
         sources
     }
 
-    /// Descends to the frame of the least solution, in which each domain has one source. Answers whether there is a solution. If
-    /// `feasible`, there is one.
-    fn find_least(&self, frame: &mut Frame, goal: Goal, feasible: bool) -> bool
+    /// Descends to the frame of the least solution, in which each domain has one source. Answers whether there is a solution. `known` has
+    /// one.
+    fn find_least(&self, frame: &mut Frame, goal: Goal, known: Option<&Domains>) -> bool
         requires fixpoint { IsFixpoint (box_of self.now frame.old) frame.old }
-        requires feasible { IsTrue feasible → HasSolution (box_of self.now frame.old) goal }
+        requires known { IfSome known (λ leaf. HasSolutionIn (box_of self.now frame.old) goal (box_with self.now leaf.now)) }
         ensures fixpoint { IsTrue result → IsFixpoint (box_of self.now frame.new) frame.new }
         ensures alone { IsTrue result → AreAloneBelow (box_of self.now frame.new) (length (byte_reads (events_on self.now))) }
         ensures lowest { IsTrue result → IsLowest (box_of self.now frame.old) goal (box_of self.now frame.new) }
@@ -55,18 +56,24 @@ impl Problem<'_> {
     {
         // The descent changes a copy: if it fails, the complete search starts from the frame.
         let mut down = *frame;
-        if self.descend(&mut down, goal, false) && self.exists(&down, goal) {
+        let mut leaf = frame.domains;
+        if self.descend(&mut down, goal, false, &mut leaf) && self.solve(&down, goal, &mut leaf) {
             *frame = down;
             return true;
         }
         // A source that is not refuted may still be in no solution, so that a failed descent proves nothing.
-        (feasible || self.exists(&*frame, goal)) && self.descend(frame, goal, true)
+        if let Some(known) = known {
+            leaf = *known;
+        } else if !self.solve(&*frame, goal, &mut leaf) {
+            return false;
+        }
+        self.descend(frame, goal, true, &mut leaf)
     }
 
-    /// The least solution of a frame, or `None` exactly if there is none. If `feasible`, there is one.
-    pub(crate) fn least(&self, frame: &Frame, goal: Goal, feasible: bool) -> Option<Least>
+    /// The least solution of a frame, or `None` exactly if there is none. `known` has one.
+    pub(crate) fn least(&self, frame: &Frame, goal: Goal, known: Option<&Domains>) -> Option<Least>
         requires fixpoint { IsFixpoint (box_of self.now frame.now) frame.now }
-        requires feasible { IsTrue feasible → HasSolution (box_of self.now frame.now) goal }
+        requires known { IfSome known (λ leaf. HasSolutionIn (box_of self.now frame.now) goal (box_with self.now leaf.now)) }
         ensures { MatchOption result (¬ HasSolution (box_of self.now frame.now) goal)
             (λ least. IsLeastSolution (box_of self.now frame.now) goal least.sources.items least.order.items) }
     {
@@ -80,7 +87,7 @@ impl Problem<'_> {
             });
         }
         let mut down = *frame;
-        if !self.find_least(&mut down, goal, feasible) {
+        if !self.find_least(&mut down, goal, known) {
             return None;
         }
         match self.least_order(&down) {

@@ -32,7 +32,7 @@ pub fn least(problem: &Problem<'_>, domains: &Domains, goal: Goal) -> Option<Lea
         (λ least. IsLeastSolution (box_with problem.now domains.now) goal least.sources.items least.order.items) }
 {
     match problem.fixpoint(domains) {
-        Some(frame) => problem.least(&frame, goal, false),
+        Some(frame) => problem.least(&frame, goal, None),
         None => None,
     }
 }

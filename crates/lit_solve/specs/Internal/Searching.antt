@@ -7,7 +7,7 @@ use Rattle.lit_solve.specs.declared.stepping.Branch.{Branch}
 use Rattle.lit_solve.specs.declared.stepping.Step.{Step}
 use Rattle.lit_solve.specs.declared.stepping.Step.TheVariants.{Leaf, Branched, Refuted}
 use Rattle.lit_solve.specs.Box.{Box, box_events}
-use Rattle.lit_solve.specs.Completion.{IsCompletion}
+use Rattle.lit_solve.specs.Completion.{IsCompletion, IsSolution}
 use Rattle.lit_solve.specs.Fill.{IsLeaf}
 use Rattle.lit_solve.specs.Given.{HasAlone}
 use Rattle.lit_solve.specs.Goal.{MeetsGoal}
@@ -22,6 +22,10 @@ pub record IsBranch (box : Box) (branch : Branch) : Type 0 where
 -- w is in the part of a source: it stores the same byte, or is that source
 abbrev pub GoesWith : Box → Branch → ℕ → ℕ → Type 0
 GoesWith box branch source w = MatchBool branch.by_value (stored_for box branch.place w ≡ stored_for box branch.place source) (w ≡ source)
+
+-- the box has a solution that is a completion of another box too
+abbrev pub HasSolutionIn : Box → Goal → Box → Type 0
+HasSolutionIn box goal other = (x : Execution) × IsSolution box goal x × IsCompletion other x
 
 -- no completion meets the goal; or the frame is a leaf, and each completion meets the goal as far as its outcome goes; or the search
 -- branches on a domain

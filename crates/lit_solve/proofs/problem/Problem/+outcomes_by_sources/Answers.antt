@@ -104,5 +104,5 @@ returns-in_default-clause-whole g t c =
     let found = solution_out frame root Any c.requires.within least.execution least.solves in
     on_ok_weaker c.record_alike.result (λ has x is.
     subst (HasOutcome (g.T.OutcomeTable.entries c.record_alike.new.table)) (observed least.execution least.solves.completes ∙ sym (observed x is))
-    (has least.execution found.completes (least.same ∙ sym c.as_slice-in_default.ensures.value)))
+    (has least.execution found.completes (least.same ∙ sym c.as_slice-sources.ensures.value)))
     c.record_alike.ensures.has

@@ -1,11 +1,13 @@
-use Rattle.lit_solve.proofs.Words.{◌<◌, AddsEntries, ap, box_of, Entry, Execution, inr, IsCompletion, is_some, List, refl, size_of, subst, sym}
+use Rattle.lit_solve.proofs.Words.{◌<◌, AddsEntries, ap, box_of, box_with, Entry, Execution, HasSolutionIn, IfSome, inr, IsCompletion, is_some, List, refl, size_of, subst, sym}
 use Rattle.lit_solve.proofs.Words.{TakesFrom, ℕ}
 use Rattle.lit_solve.proofs.EntryLemmas.{adds_more, adds_none}
 use Rattle.lit_solve.proofs.PruningLemmas.{source_known}
-use Rattle.lit_solve.proofs.SearchingLemmas.{left_less}
+use Rattle.lit_solve.proofs.SearchingLemmas.{left_less, stays_in}
+use Rattle.std.proofs.lemmas.Option.{IfSome_then}
+use Rattle.lit_solve.specs.declared.goal.Goal.TheVariants.{Any}
 use Rattle.lit_solve.proofs.ObservedLemmas.{IsSeen, same_stores_among, all_seen, first_within, part_adds, seen_part, seen_past, some_differ}
 use Rattle.lit_solve.proofs.problem.Problem.+outcomes_by_values.Goals as goal
-use Rattle.lit_solve.proofs.problem.Problem.+outcomes_by_values.Goals.{then-restrict+then-may_complete+in_ok-end+in-Some-end, else-restrict, else-restrict-via-then-restrict+else-may_complete, else-restrict-via-else-restrict}
+use Rattle.lit_solve.proofs.problem.Problem.+outcomes_by_values.Goals.{then-dead_end, else-dead_end, then-restrict+then-may_complete+in_ok-end+in-Some-end, else-restrict, else-restrict-via-then-restrict+else-may_complete, else-restrict-via-else-restrict}
 
 pub loop-source-init : goal.loop-source-init
 loop-source-init g t c = record {
@@ -24,9 +26,16 @@ storing_same-group-requires g t c =
       known = λ w there. known w ((c.sources_left-all.ensures w).0 there);
     }
 
+pub may_complete-requires-clause-known : goal.may_complete-requires-clause-known
+may_complete-requires-clause-known g t c =
+    IfSome_then c.args.known c.requires.known (λ leaf found all.
+    stays_in (box_of c.args.self.now c.args.frame.now) (box_of c.args.self.now c.restrict.new.frame) (box_with c.args.self.now leaf.now) Any
+    c.in-Some.place c.storing_same-group.result (c.restrict.ensures.restricted c.if-restrict.true) found all)
+
 pub outcomes_by_values-requires : goal.outcomes_by_values-requires
 outcomes_by_values-requires g t c κs within =
     let box = box_of c.args.self.now c.args.frame.now in
+    let next = box_of c.args.self.now c.restrict.new.frame in
     let place = c.in-Some.place in
     let matching = same_stores_among box place c.in-Some-split_first.source c.sources_left-all.result c.storing_same-group.result c.sources_left-all.ensures
     c.storing_same-group.ensures in
@@ -40,8 +49,17 @@ outcomes_by_values-requires g t c κs within =
           within.1,
           (
             c.restrict.ensures.fixpoint c.if-restrict.true,
-            first_within box c.restrict.new.frame.domains c.next_observed.new.values.items (c.restrict.ensures.restricted c.if-restrict.true).within
-                c.next_observed.ensures.first,
+            (
+              first_within box c.restrict.new.frame.domains c.next_observed.new.values.items
+                  (c.restrict.ensures.restricted c.if-restrict.true).within c.next_observed.ensures.first,
+              elim c.if-dead_end.branch [
+                | then-dead_end w ↦
+                    subst (λ o. IfSome o (λ leaf. HasSolutionIn next Any (box_with c.args.self.now leaf.now))) (sym w.found-is)
+                    (c.may_complete.ensures.found c.if-may_complete.true w.if-dead_end.true)
+                | else-dead_end w ↦
+                    subst (λ o. IfSome o (λ leaf. HasSolutionIn next Any (box_with c.args.self.now leaf.now))) (sym w.found-is) tt
+              ],
+            ),
           ),
         ),
       ),
@@ -106,7 +124,7 @@ loop-source-preserved g t c =
           subst (λ (es : List Entry). AddsEntries box old es × IsSeen box place es rest) (sym (ap entries w.table-is))
           (past (elim w.else-restrict.branch [
             | else-restrict-via-then-restrict+else-may_complete v ↦
-                (λ x is takes. v.may_complete.ensures v.if-may_complete.false x ((c.restrict.ensures.restricted v.if-restrict.true).retained x is takes))
+                (λ x is takes. v.may_complete.ensures.none v.if-may_complete.false x ((c.restrict.ensures.restricted v.if-restrict.true).retained x is takes))
             | else-restrict-via-else-restrict v ↦ c.restrict.ensures.none v.if-restrict.false
           ]))
     ] in

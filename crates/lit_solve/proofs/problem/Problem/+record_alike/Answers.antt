@@ -64,7 +64,7 @@ record_alike-requires g t c κs within =
           c.restrict.ensures.fixpoint c.if-restrict.true,
           (
             first_within box c.restrict.new.frame.domains c.observe.new.values.items restricted.within c.observe.ensures.first,
-            (x.0, restricted.retained x.0 x.1 (takes_group g t group x.0 x.1 x.2), x.2),
+            (x.0, restricted.retained x.0 x.1 (takes_group g t group x.0 x.1 x.2), x.2, x.3),
           ),
         ),
       ),

@@ -7,7 +7,7 @@ loop-place-preserved-in-Some c = record {
   fixpoint = c.loop-place.invariant.fixpoint;
   alone = alone_more (box_of c.args.self.now c.loop-place.frame) c.loop-place.place c.loop-place.invariant.alone (c.in-Some._source, c.in-Some.ensures.0);
   lowest = c.loop-place.invariant.lowest;
-  solution = c.loop-place.invariant.solution;
+  known = c.loop-place.invariant.known;
 }
 
 pub loop-place-preserved : goal.loop-place-preserved
@@ -20,7 +20,7 @@ loop-place-preserved c = record {
   lowest =
       lowest_on (box_of c.args.self.now c.args.frame.now) was now c.args.goal c.loop-place.place c.loop-place.invariant.lowest
       (c.take_least.ensures.lowest c.if-not-take_least.false) c.loop-place.invariant.alone below;
-  solution = (c.take_least.ensures.solution c.if-not-take_least.false);
+  known = c.take_least.ensures.found c.if-not-take_least.false;
 }
   where
     was : Box
