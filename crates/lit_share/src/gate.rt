@@ -27,10 +27,6 @@ impl<G: Gate> Heartbeat for GateBeat<'_, G> {
         self.gate.alive();
         Ok(())
     }
-
-    fn product_beat(&self) -> Result<(), AllocError> {
-        self.beat()
-    }
 }
 
 /// A gate that does nothing.

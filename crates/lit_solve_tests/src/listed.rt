@@ -73,8 +73,4 @@ impl Heartbeat for Beats {
         self.count.fetch_add(1, Ordering::SeqCst);
         Ok(())
     }
-
-    fn product_beat(&self) -> Result<(), AllocError> {
-        self.beat()
-    }
 }
