@@ -81,7 +81,7 @@ impl Problem<'_> {
     }
 
     /// This is `solve` for a frame whose byte read at a place has sources of a set alone. It needs no search if `leaf` is of a frame
-    /// without that restriction and has sources of the set alone there too: its solution is one of this frame.
+    /// without that restriction and has sources of the set alone there too: its solution is one of this frame (decision 194).
     pub(crate) fn solve_part(
         &self,
         frame: &Frame,
