@@ -18,7 +18,7 @@ PUBLISHED = json.loads((TOP / "shared" / "published.json").read_text())
 
 
 def version():
-    """The version and the toolchain's line, as the program prints them."""
+    """The version and the line of the toolchain's logic, as the program prints them."""
     return (TOP / "docs" / "help" / "version.txt").read_text().split("\n")[:2]
 
 

@@ -114,7 +114,7 @@ fn help(rt: HostRuntime) -> Result<(), Fail> {
 
 #[test]
 fn version(rt: HostRuntime) -> Result<(), Fail> {
-    let line = b"jslit 0.1.0\nrattle-kit-13b logic dac8208d650f15bf\n";
+    let line = b"jslit 0.1.0\nrattle logic dac8208d650f15bf\n";
     answers(&rt, &["jslit", "--version"], b"", 0, line, "")?;
     answers(&rt, &["jslit", "-V", "no/such.lit"], b"", 0, line, "")
 }

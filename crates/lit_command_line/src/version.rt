@@ -1,5 +1,6 @@
-//! The version: the one place where it stands (decision 66), beside the toolchain that the program is proved and built by.
+//! The version: the one place where it stands (decision 66), beside the logic that the program is proved by.
 
-/// What `--version` prints behind a program's name: the version, and the line of the toolchain that proves and builds it.
+/// What `--version` prints behind a program's name: the version, and the logic of the toolchain that proves and builds it, as `rt version`
+/// says it behind the kit's name. Kits of one logic prove the same.
 pub const VERSION: &str = "0.1.0
-rattle-kit-13b logic dac8208d650f15bf";
+rattle logic dac8208d650f15bf";
