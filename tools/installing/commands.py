@@ -7,7 +7,7 @@ from litmus.program import TOP
 # Each command with what it is, as its section of docs/COMMANDS.md begins.
 COMMANDS = {name: first.lower() + rest for name, first, rest in
             re.findall(r"^## (jslit\S*)\n\n(\w)(.*)\.$", (TOP / "docs" / "COMMANDS.md").read_text(), re.M)}
-# What is proved: by --version it prints the toolchain too.
+# What is proved: by --version it prints the toolchain's logic too.
 PROVED = ("jslit", "jslit-text", "jslit-why")
 # What a value is called that is a file's name.
 FILES = ("FILE", "PROGRAM", "FOLDER")
